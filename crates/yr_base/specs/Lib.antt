@@ -1,0 +1,10 @@
+pub mod Bytes
+pub mod Words
+pub mod Places
+pub mod Gives
+pub mod Causes
+pub mod Told
+pub mod Trace
+pub mod Store
+pub mod Sink
+pub mod Memory
