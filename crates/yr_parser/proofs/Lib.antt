@@ -1,0 +1,13 @@
+pub mod Binding
+pub mod Complete
+pub mod Deep
+pub mod Heights
+pub mod ManyLemmas
+pub mod Onward
+pub mod Outcomes
+pub mod SetComplete
+pub mod SetSound
+pub mod Shorter
+pub mod Sound
+pub mod Steps
+pub mod TreeRules

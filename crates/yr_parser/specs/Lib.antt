@@ -1,0 +1,10 @@
+pub mod Conditions
+pub mod Depth
+pub mod Input
+pub mod Levels
+pub mod Lexemes
+pub mod Many
+pub mod Nests
+pub mod Reading
+pub mod Shallow
+pub mod Terminals
