@@ -1,4 +1,5 @@
 pub mod Conditions
+pub mod Declarations
 pub mod Depth
 pub mod Input
 pub mod Levels
@@ -6,5 +7,7 @@ pub mod Lexemes
 pub mod Many
 pub mod Nests
 pub mod Reading
+pub mod Refusals
+pub mod Ruling
 pub mod Shallow
 pub mod Terminals
