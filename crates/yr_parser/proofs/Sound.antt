@@ -36,7 +36,7 @@ word-some [] x e = absurd cc
 word-some (Word w ∷ k) x e = done (λ v t. Word w ∷ k ≡ Word v ∷ t) w k x e refl
 word-some (_ ∷ k) x e = absurd cc
 
-word-then : {A : Type 0} (f : List ℕ → Parser A) (x : A × Terminals) (Q : Terminals → Type 0) → ((w : List ℕ) (rest : Terminals) → f w rest ≡ Some x → Q (Word w ∷ rest))
+pub word-then : {A : Type 0} (f : List ℕ → Parser A) (x : A × Terminals) (Q : Terminals → Type 0) → ((w : List ℕ) (rest : Terminals) → f w rest ≡ Some x → Q (Word w ∷ rest))
     → (k : Terminals) → and_then (read_word k) f ≡ Some x → Q k
 word-then f x Q go k e = let a = bind-some (read_word k) f x e in subst Q (sym (word-some k a.0 a.1)) (go a.0.0 a.0.1 a.2)
 

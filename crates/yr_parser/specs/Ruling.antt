@@ -144,15 +144,23 @@ read_tags = do
   some ← eat sign.Colon
   if some then tags_from else pure []
 
+abbrev pub with_flags : Bool → Bool → Parser (Bool × Bool)
+with_flags global hidden k = Some ((global, hidden), k)
+
 unfoldable pub global_flags : Parser (Bool × Bool)
 global_flags = do
   hidden ← eat sign.Private
-  pure (true, hidden)
+  if hidden then with_flags true true else with_flags true false
+
+unfoldable pub hidden_flags : Parser (Bool × Bool)
+hidden_flags = do
+  global ← eat sign.Global
+  if global then with_flags true true else with_flags false true
 
 unfoldable pub private_flags : Parser (Bool × Bool)
 private_flags = do
   hidden ← eat sign.Private
-  if hidden then (eat sign.Global >>= λ g. pure (g, true)) else pure (false, false)
+  if hidden then hidden_flags else with_flags false false
 
 unfoldable pub read_flags : Parser (Bool × Bool)
 read_flags = do
