@@ -5,3 +5,5 @@ pub mod Forms
 pub mod Faults
 pub mod Tokens
 pub mod Sources
+pub mod Reading
+pub mod Candidates

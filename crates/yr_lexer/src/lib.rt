@@ -2,11 +2,18 @@
 #![tactic(auto)]
 
 mod fault;
+mod gap;
+mod number;
+mod reserved;
+mod scan;
+mod sign;
 mod source;
+mod text;
 mod token;
 mod tokens;
 
 pub use fault::{GatherFault, LexFault};
+pub use text::unescape;
 pub use source::{FileToken, SourceFile};
 pub use token::{Token, TokenKind};
 pub use tokens::Tokens;

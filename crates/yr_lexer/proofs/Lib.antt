@@ -1,0 +1,13 @@
+pub mod Basics
+pub mod GapLemmas
+pub mod WordLemmas
+pub mod UnitLemmas
+pub mod EscapeLemmas
+pub mod SourceLemmas
+pub mod NumberLemmas
+pub mod FirstLemmas
+pub mod NameLemmas
+pub mod SignLemmas
+pub mod NumberBranch
+pub mod TextBranch
+pub mod RegexBranch
