@@ -11,3 +11,7 @@ pub mod SignLemmas
 pub mod NumberBranch
 pub mod TextBranch
 pub mod RegexBranch
+pub mod HexLemmas
+pub mod KindLemmas
+pub mod ListLemmas
+pub mod TokenLemmas

@@ -1,6 +1,6 @@
 -- Words and names: what is read is the longest token.
 use Rattle.std.proofs.Common.{◌≡◌, ◌≢◌, ℕ, zero, suc, ◌+◌, ◌-◌, ◌<◌, ◌≤◌, Bool, true, false, List, [], ◌∷◌, ◌++◌, length, if◌then◌else◌, refl, sym, ap, subst, ◌∙◌, arith, append_assoc}
-use Rattle.std.specs.Prelude.{◌==◌, ◌||◌, ◌&&◌, All}
+use Rattle.std.specs.Prelude.{◌==◌, ◌||◌, ◌&&◌, ◌↔◌, IsTrue, All}
 use Rattle.std.proofs.lemmas.Bool.{or_left, eqb-true, eqb-false, and_parts}
 use Rattle.std.proofs.lemmas.List.Elements.{All-nil, All-cons, All-head, All-tail}
 use Rattle.yr_base.specs.Bytes.{is_word_start, is_word_byte}
@@ -161,3 +161,55 @@ module _ (a : Bool) (t : Text) where
         };
         earlier = no-earlier a 64 t kind.PlaceName (past_word t) 5 refl (λ e. cc) (λ e. cc) (λ e. cc) (λ e y. cc) f;
       }
+
+-- ---- the words of the code
+
+pub word-within : (t rest : Text) → rest ≡ past_word t → length rest ≤ length t
+word-within t rest e = let h = past_word-shorter t in let l = ap (λ (x : Text). length x) e in omega arith
+
+abbrev BeginsWord : Text → Type 0
+BeginsWord text = (b : ℕ) × (t : Text) × (text ≡ b ∷ t) × (is_word_start b ≡ true)
+
+reserved-at : (a : Bool) (text : Text) (b : ℕ) (t : Text) → text ≡ b ∷ t → is_word_start b ≡ true → IsReserved (before text (past_word text)) → IsCandidate a text kind.Reserved (past_word text)
+reserved-at a text b t e h r =
+    subst (λ (y : Text). IsCandidate a y kind.Reserved (past_word y)) (sym e) (reserved-candidate a b t h (subst (λ (y : Text). IsReserved (before y (past_word y))) e r))
+
+word-at : (a : Bool) (text : Text) (b : ℕ) (t : Text) → text ≡ b ∷ t → is_word_start b ≡ true → ¬ IsReserved (before text (past_word text)) → IsCandidate a text kind.Word (past_word text)
+word-at a text b t e h n =
+    subst (λ (y : Text). IsCandidate a y kind.Word (past_word y)) (sym e) (word-candidate a b t h (subst (λ (y : Text). ¬ IsReserved (before y (past_word y))) e n))
+
+is_true : IsTrue true
+is_true = refl
+
+not_true : IsTrue false → ⊥
+not_true h = cc
+
+pub word-reserved : (a : Bool) (text rest : Text) → BeginsWord text → (r : Bool) → rest ≡ past_word text
+    → (IsTrue r ↔ IsReserved (before text rest)) → r ≡ true → IsCandidate a text kind.Reserved rest
+word-reserved a text rest w true e i y =
+    subst (λ (x : Text). IsCandidate a text kind.Reserved x) (sym e) (reserved-at a text w.0 w.1 w.2 w.3 (subst (λ (x : Text). IsReserved (before text x)) e (i.0 is_true)))
+word-reserved a text rest w false e i y = absurd cc
+
+pub word-plain : (a : Bool) (text rest : Text) → BeginsWord text → (r : Bool) → rest ≡ past_word text
+    → (IsTrue r ↔ IsReserved (before text rest)) → r ≡ false → IsCandidate a text kind.Word rest
+word-plain a text rest w false e i y =
+    subst (λ (x : Text). IsCandidate a text kind.Word x) (sym e) (word-at a text w.0 w.1 w.2 w.3 (λ r. not_true (i.1 (subst (λ (x : Text). IsReserved (before text x)) (sym e) r))))
+word-plain a text rest w true e i y = absurd cc
+
+pub string_name-wild : (a : Bool) (t run : Text) (x : Bool) (rest : Text) → run ≡ past_word t → ◌≡◌ {A = Bool × Text} (x, rest) (past_byte 42 run) → x ≡ true
+    → IsCandidate a (36 ∷ t) kind.StringWild rest
+string_name-wild a t run true rest e f y = wild-candidate a t rest (sym e ∙ past_byte-true 42 run rest f)
+string_name-wild a t run false rest e f y = absurd cc
+
+pub string_name-plain : (a : Bool) (t run : Text) (x : Bool) (rest : Text) → run ≡ past_word t → ◌≡◌ {A = Bool × Text} (x, rest) (past_byte 42 run) → x ≡ false
+    → IsCandidate a (36 ∷ t) kind.StringName rest
+string_name-plain a t run false rest e f y =
+    let p = past_byte-false 42 run rest f in
+    subst (λ (x : Text). IsCandidate a (36 ∷ t) kind.StringName x) (sym (p.0 ∙ e)) (name-candidate a t (λ u g. p.1 u (e ∙ g)))
+string_name-plain a t run true rest e f y = absurd cc
+
+pub count-read : (a : Bool) (t rest : Text) → rest ≡ past_word t → IsCandidate a (35 ∷ t) kind.CountName rest
+count-read a t rest e = subst (λ (x : Text). IsCandidate a (35 ∷ t) kind.CountName x) (sym e) (count-candidate a t)
+
+pub place-read : (a : Bool) (t rest : Text) → rest ≡ past_word t → IsCandidate a (64 ∷ t) kind.PlaceName rest
+place-read a t rest e = subst (λ (x : Text). IsCandidate a (64 ∷ t) kind.PlaceName x) (sym e) (place-candidate a t)

@@ -213,3 +213,41 @@ module _ (a : Bool) (b : ℕ) (t : Text) (digit : digit_of b < 10) where
       earlier row.BadByte h = let v = value n r in not_bad_byte v.0 v.1
       earlier row.TooLargeNumber h = λ l. let v = value n r in let m = v.2 in let same = number-same v.0 l.0 l.1 v.1 l.2 in let le = l.3 in omega arith
       earlier row.LongName h = absurd (omega arith)
+
+-- ---- the words of the code
+
+abbrev BeginsNumber : Text → Type 0
+BeginsNumber text = (b : ℕ) × (t : Text) × (text ≡ b ∷ t) × (digit_of b < 10)
+
+abbrev float_test : Text → Bool
+float_test text = is_fraction (past_digits 10 0 text).1
+
+pub read-float : (a : Bool) (text : Text) → BeginsNumber text → (r : Bool) → r ≡ float_test text → r ≡ true → IsFirstFault row.Float a text
+read-float a text w r e y =
+    let g : float_test (w.0 ∷ w.1) ≡ true = ap float_test (sym w.2) ∙ sym e ∙ y in
+    subst (λ (x : Text). IsFirstFault row.Float a x) (sym w.2) (float-first a w.0 w.1 w.3 g)
+
+number-read_at : (text rest : Text) (b : ℕ) (t : Text) (o : Option ℕ) → text ≡ b ∷ t → rest ≡ past_word text → number_in (before text rest) ≡ o
+    → number_in (before (b ∷ t) (past_word (b ∷ t))) ≡ o
+number-read_at text rest b t o e f g =
+    ap (λ (x : Text). number_in (before x (past_word x))) (sym e) ∙ ap (λ (x : Text). number_in (before text x)) (sym f) ∙ g
+
+pub read-bad : (a : Bool) (text : Text) → BeginsNumber text → (r : Bool) (rest : Text) → r ≡ float_test text → r ≡ false → rest ≡ past_word text
+    → number_in (before text rest) ≡ None → IsFirstFault row.BadByte a text
+read-bad a text w r rest e n f g =
+    let h : float_test (w.0 ∷ w.1) ≡ false = ap float_test (sym w.2) ∙ sym e ∙ n in
+    subst (λ (x : Text). IsFirstFault row.BadByte a x) (sym w.2) (number-bad a w.0 w.1 w.3 h (number-read_at text rest w.0 w.1 None w.2 f g))
+
+pub read-large : (a : Bool) (text : Text) → BeginsNumber text → (r : Bool) (rest : Text) (n : ℕ) → r ≡ float_test text → r ≡ false → rest ≡ past_word text
+    → number_in (before text rest) ≡ Some n → 2 ^ 63 ≤ n → IsFirstFault row.TooLargeNumber a text
+read-large a text w r rest n e m f g l =
+    let h : float_test (w.0 ∷ w.1) ≡ false = ap float_test (sym w.2) ∙ sym e ∙ m in
+    subst (λ (x : Text). IsFirstFault row.TooLargeNumber a x) (sym w.2) (number-large a w.0 w.1 w.3 n h (number-read_at text rest w.0 w.1 (Some n) w.2 f g) l)
+
+pub read-number : (a : Bool) (text : Text) → BeginsNumber text → (r : Bool) (rest : Text) (n : ℕ) → r ≡ float_test text → r ≡ false → rest ≡ past_word text
+    → number_in (before text rest) ≡ Some n → n < 2 ^ 63 → IsCandidate a text (kind.Number (pos n)) rest
+read-number a text w r rest n e m f g l =
+    let h : float_test (w.0 ∷ w.1) ≡ false = ap float_test (sym w.2) ∙ sym e ∙ m in
+    let k = number-candidate a w.0 w.1 w.3 n h (number-read_at text rest w.0 w.1 (Some n) w.2 f g) l in
+    let same : past_word (w.0 ∷ w.1) ≡ rest = ap past_word (sym w.2) ∙ sym f in
+    subst (λ (x : Text). IsCandidate a x (kind.Number (pos n)) rest) (sym w.2) (subst (λ (x : Text). IsCandidate a (w.0 ∷ w.1) (kind.Number (pos n)) x) same k)

@@ -14,6 +14,7 @@ use Rattle.yr_lexer.specs.Candidates.{IsCandidate}
 use Rattle.yr_lexer.specs.Reading.{past_units, past_byte, Flags, flags_by, flags_of, past_line}
 use Rattle.yr_lexer.proofs.Basics.{by_test}
 use Rattle.yr_lexer.proofs.GapLemmas.{line-read}
+use Rattle.yr_lexer.proofs.NameLemmas.{past_byte-true, past_byte-false}
 use Rattle.yr_lexer.proofs.UnitLemmas.{HasUnits, units-some, units-one, units-none}
 use Rattle.yr_lexer.proofs.FirstLemmas.{class_of, begins-at, only-regex, no-float, no-bad_byte, no-bad_escape, no-too_large, not-unclosed, same-head, same-tail}
 
@@ -101,23 +102,24 @@ flags-found (b ∷ t) = by_test (b == 105) (i_then (past_byte 115 t)) (if b == 1
 
 -- ---- the branch
 
+-- what follows the closing `/` of an expression that fits
+abbrev pub Closes : Text → Bool → Bool → Text → Type 0
+Closes t i s rest = (flags : Text) × AreFlags i s flags × HasUnits 47 t (flags ++ rest)
+
+pub regex-units : (a : Bool) (t : Text) (i s : Bool) (rest : Text) → Fits a (47 ∷ t) (kind.Regex i s) rest → Closes t i s rest
+regex-units a t i s rest f =
+    let inside = f.form.0 in
+    let flags = f.form.1 in
+    (flags, f.form.5,
+    (inside, same-tail 47 47 t (inside ++ 47 ∷ (flags ++ rest)) (f.whole ∙ ap (λ (x : Text). x ++ rest) f.form.2 ∙ ap (λ (x : Text). 47 ∷ x) (append_assoc inside (47 ∷ flags) rest)), f.form.4))
+
+
 module _ (a : Bool) (t : Text) (no_piece : (rest : Text) → ¬ Piece (47 ∷ t) rest) where
   pub regex-comment : (more : Text) → t ≡ 42 ∷ more → IsFirstFault row.Unclosed a (47 ∷ t)
   regex-comment more e = record {
     holds = subst (λ (x : Text). IsUnclosed a (47 ∷ x)) (sym e) (open_comment (λ rest b. no_piece rest (subst (λ (x : Text). Piece (47 ∷ x) rest) (sym e) (comment (block b)))));
     first = λ g h. absurd (omega arith);
   }
-
-  -- what follows the closing `/` of an expression that fits
-  abbrev Closes : Bool → Bool → Text → Type 0
-  Closes i s rest = (flags : Text) × AreFlags i s flags × HasUnits 47 t (flags ++ rest)
-
-  regex-units : (i s : Bool) (rest : Text) → Fits a (47 ∷ t) (kind.Regex i s) rest → Closes i s rest
-  regex-units i s rest f =
-      let inside = f.form.0 in
-      let flags = f.form.1 in
-      (flags, f.form.5,
-      (inside, same-tail 47 47 t (inside ++ 47 ∷ (flags ++ rest)) (f.whole ∙ ap (λ (x : Text). x ++ rest) f.form.2 ∙ ap (λ (x : Text). 47 ∷ x) (append_assoc inside (47 ∷ flags) rest)), f.form.4))
 
   some-units : (rest : Text) → (h : HasUnits 47 t rest) → h.0 ≢ []
   some-units rest h e =
@@ -126,7 +128,7 @@ module _ (a : Bool) (t : Text) (no_piece : (rest : Text) → ¬ Piece (47 ∷ t)
 
   pub regex-unclosed : past_units 47 false t ≡ None → IsFirstFault row.Unclosed a (47 ∷ t)
   regex-unclosed e = record {
-    holds = open_regex (λ i s rest f. let c = regex-units i s rest f in units-none 47 refl refl t e (c.0 ++ rest) c.2);
+    holds = open_regex (λ i s rest f. let c = regex-units a t i s rest f in units-none 47 refl refl t e (c.0 ++ rest) c.2);
     first = λ g h. absurd (omega arith);
   }
 
@@ -153,7 +155,7 @@ module _ (a : Bool) (t : Text) (no_piece : (rest : Text) → ¬ Piece (47 ∷ t)
         fits = fits;
         greatest = λ k' rest' f. only-regex (λ k. Fits a (47 ∷ t) k rest' → length flags.rest ≤ length rest')
             (λ i s f.
-            let c = regex-units i s rest' f in
+            let c = regex-units a t i s rest' f in
             let u = units-some 47 refl refl t after read in
             (flags-found after).greatest i s c.0 rest' c.1 (units-one 47 refl refl t after (c.0 ++ rest') u c.2))
             k' (begins-at a 47 t k' rest' 7 refl f) f;
@@ -168,3 +170,16 @@ module _ (a : Bool) (t : Text) (no_piece : (rest : Text) → ¬ Piece (47 ∷ t)
         earlier row.BadByte h = no-bad_byte a 47 t (kind.Regex flags.nocase flags.dot_all) flags.rest (λ x. cc) fits
         earlier row.TooLargeNumber h = no-too_large a 47 t (λ x. cc)
         earlier row.LongName h = absurd (omega arith)
+
+-- ---- the words of the code
+
+pub read-comment : (a : Bool) (t : Text) → ((rest : Text) → ¬ Piece (47 ∷ t) rest) → (x : Bool) (more : Text) → ◌≡◌ {A = Bool × Text} (x, more) (past_byte 42 t) → x ≡ true
+    → IsFirstFault row.Unclosed a (47 ∷ t)
+read-comment a t n true more e y = regex-comment a t n more (past_byte-true 42 t more e)
+read-comment a t n false more e y = absurd cc
+
+pub read-regex : (a : Bool) (t : Text) → ((rest : Text) → ¬ Piece (47 ∷ t) rest) → (x : Bool) (more after : Text) (f : Flags) → ◌≡◌ {A = Bool × Text} (x, more) (past_byte 42 t) → x ≡ false
+    → past_units 47 false t ≡ Some after → f ≡ flags_of after → IsCandidate a (47 ∷ t) (kind.Regex f.nocase f.dot_all) f.rest
+read-regex a t n false more after f e y u g =
+    subst (λ (x : Flags). IsCandidate a (47 ∷ t) (kind.Regex x.nocase x.dot_all) x.rest) (sym g) (regex-candidate a t n (past_byte-false 42 t more e).1 after u)
+read-regex a t n true more after f e y u g = absurd cc

@@ -1,40 +1,28 @@
 -- Signs, and the names of lengths beside `!=`.
 use Rattle.std.proofs.Common.{◌≡◌, ◌≢◌, ℕ, zero, suc, ◌+◌, ◌-◌, ◌<◌, ◌≤◌, Bool, true, false, List, [], ◌∷◌, ◌++◌, length, Option, Some, None, if◌then◌else◌, refl, sym, ap, subst, ◌∙◌, ◌⊎◌, inl, inr, ⊎_elim, arith, append_assoc}
-use Rattle.std.specs.Prelude.{◌==◌, ◌||◌, ◌&&◌, nat_le, Contains, not}
+use Rattle.std.specs.Prelude.{◌==◌, ◌||◌, ◌&&◌, nat_le, nat_lt, Contains, not}
 use Rattle.std.specs.Str.{bytes_eq}
 use Rattle.std.proofs.lemmas.Slice.Eq.{bytes_eq-Decides}
-use Rattle.std.proofs.lemmas.Bool.{eqb-true, eqb-false, and_parts, or_parts, or_cases, or_left, or_right, leb-true}
+use Rattle.std.proofs.lemmas.Bool.{eqb-true, eqb-false, and_parts, or_parts, or_cases, or_left, or_right, ne_eqb, le-ltb}
 use Rattle.std.proofs.lemmas.List.Elements.{All-head}
-use Rattle.yr_base.specs.Bytes.{is_word_byte}
+use Rattle.yr_base.specs.Bytes.{is_word_byte, is_digit}
 use Rattle.yr_lexer.specs.declared.token.TokenKind.{TokenKind}
 use Rattle.yr_lexer.specs.declared.token.TokenKind.TheVariants as kind
 use Rattle.yr_lexer.specs.declared.fault.FaultRow.{FaultRow}
 use Rattle.yr_lexer.specs.declared.fault.FaultRow.TheVariants as row
 use Rattle.yr_lexer.specs.Gaps.{Text}
+use Rattle.yr_lexer.specs.Texts.{digit_of}
 use Rattle.yr_lexer.specs.Forms.{signs, AreWordBytes}
 use Rattle.yr_lexer.specs.Faults.{Fits, Longest, IsFault, IsFirstFault, no_token, rank}
-use Rattle.yr_lexer.specs.Candidates.{IsCandidate}
-use Rattle.yr_lexer.specs.Reading.{past_word, is_one_of, is_pair_of, sign_bytes, sign_pairs, past_sign, past_sign_byte}
+use Rattle.yr_lexer.specs.Candidates.{IsCandidate, IsOther}
+use Rattle.yr_lexer.specs.Reading.{past_word, past_byte, is_one_of, is_pair_of, sign_bytes, sign_pairs, past_sign, past_sign_byte}
 use Rattle.yr_lexer.proofs.Basics.{by_test, bool_cases}
+use Rattle.yr_lexer.proofs.ListLemmas.{is_in, is_in-contains}
 use Rattle.yr_lexer.proofs.WordLemmas.{word-run}
-use Rattle.yr_lexer.proofs.NameLemmas.{least-at, tail-of}
+use Rattle.yr_lexer.proofs.NameLemmas.{least-at, tail-of, past_byte-true, past_byte-false}
 use Rattle.yr_lexer.proofs.FirstLemmas.{every, every-contains, class_of, may_begin, begins-at, no-earlier, no-unclosed, no-bad_escape, no-float, only-length, only-sign, only-hex, same-tail}
 
 -- ---- a list has what a test finds
-
-is_in : List Text → Text → Bool
-is_in [] w = false
-is_in (x ∷ xs) w = bytes_eq x w || is_in xs w
-
-contains-next : (x : Text) (xs : List Text) (w : Text) → Contains xs w → Contains (x ∷ xs) w
-contains-next x xs w c = (suc c.0, omega arith, c.2)
-
-is_in-contains : (xs : List Text) (w : Text) → is_in xs w ≡ true → Contains xs w
-unfolding is_in
-is_in-contains [] w = λ e. absurd cc
-is_in-contains (x ∷ xs) w = bool_cases (bytes_eq x w || is_in xs w ≡ true → Contains (x ∷ xs) w) (bytes_eq x w)
-    (λ f e. (zero, omega arith, (bytes_eq-Decides x w).0 f))
-    (λ f e. contains-next x xs w (is_in-contains xs w (rw f at e)))
 
 one_of-every : (p : ℕ → Bool) (xs : List ℕ) (b : ℕ) → every p xs ≡ true → is_one_of xs b ≡ true → p b ≡ true
 one_of-every p [] b e h = absurd cc
@@ -200,7 +188,7 @@ module _ (a : Bool) (t : Text) where
   }
 
   -- a sign that begins with `!` is `!=`
-  bang-sign : (rest : Text) → Fits a (33 ∷ t) kind.Sign rest → t ≡ 61 ∷ rest
+  pub bang-sign : (rest : Text) → Fits a (33 ∷ t) kind.Sign rest → t ≡ 61 ∷ rest
   bang-sign rest f = go t refl (leaves a 33 t rest f)
     where
       go : (u : Text) → u ≡ t → Leaves 33 u rest → t ≡ 61 ∷ rest
@@ -234,3 +222,34 @@ module _ (a : Bool) (t : Text) where
       (λ f. least-at t f.form.0 rest' (tail-of a t 33 f.form.0 f.bytes rest' f.whole f.form.1) f.form.2)
       (λ f. absurd (n rest' (bang-sign rest' f)))
       k' (begins-at a 33 t k' rest' 6 refl f) f)
+
+pub length_name-sign : (a : Bool) (t : Text) (x : Bool) (rest : Text) → ◌≡◌ {A = Bool × Text} (x, rest) (past_byte 61 t) → x ≡ true → IsCandidate a (33 ∷ t) kind.Sign rest
+length_name-sign a t true rest f y = unequal-candidate a t rest (past_byte-true 61 t rest f)
+length_name-sign a t false rest f y = absurd cc
+
+pub length_name-plain : (a : Bool) (t : Text) (x : Bool) (rest run : Text) → ◌≡◌ {A = Bool × Text} (x, rest) (past_byte 61 t) → x ≡ false → run ≡ past_word t → IsCandidate a (33 ∷ t) kind.LengthName run
+length_name-plain a t false rest run f y e =
+    subst (λ (x : Text). IsCandidate a (33 ∷ t) kind.LengthName x) (sym e) (length-candidate a t (past_byte-false 61 t rest f).1)
+length_name-plain a t true rest run f y e = absurd cc
+
+-- ---- what is neither a word, a number, a name nor a quote
+
+other-class : (b : ℕ) → IsOther b → b ≢ 123 → class_of b ≡ 9
+other-class b o n =
+    rw (o.no_word.no_word, digit-false b o.no_word.no_digit, ne_eqb b 34 o.no_word.no_quote, ne_eqb b 36 o.no_dollar, ne_eqb b 35 o.no_hash, ne_eqb b 64 o.no_at,
+    ne_eqb b 33 o.no_bang, ne_eqb b 47 o.no_word.no_slash, ne_eqb b 123 n) refl
+  where
+    digit-false : (b : ℕ) → is_digit b ≡ false → nat_lt (digit_of b) 10 ≡ false
+    digit-false b h = le-ltb (digit_of b) 10 (grind arith)
+
+pub other-place : (a : Bool) (b : ℕ) (t : Text) (r : Bool) → IsOther b → r ≡ (a && b == 123) → r ≡ false → IsSignPlace a b t
+other-place a b t r o e n = bool_cases (IsSignPlace a b t) (b == 123)
+    (λ y. subst (λ (x : ℕ). IsSignPlace a x t) (sym (eqb-true b 123 y)) (place-brace a t (no_equals a y (sym e ∙ n))))
+    (λ y. place-other a b t (other-class b o (eqb-false b 123 y)))
+  where
+    no_equals : (x : Bool) → (b == 123) ≡ true → (x && b == 123) ≡ false → x ≡ false
+    no_equals false y h = refl
+    no_equals true y h = absurd cc
+
+pub hex-parts : (a : Bool) (b : ℕ) (r : Bool) → r ≡ (a && b == 123) → r ≡ true → (a ≡ true) × (b ≡ 123)
+hex-parts a b r e y = let p = and_parts a (b == 123) (sym e ∙ y) in (p.0, eqb-true b 123 p.1)

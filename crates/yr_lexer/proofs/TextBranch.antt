@@ -98,3 +98,6 @@ module _ (a : Bool) (t : Text) where
       earlier row.BadByte h = no-bad_byte a 34 t kind.Text rest (λ x. cc) (units-text rest (units-some 34 refl refl t rest e))
       earlier row.TooLargeNumber h = no-too_large a 34 t (λ x. cc)
       earlier row.LongName h = absurd (omega arith)
+
+pub units-within : (t rest : Text) → past_units 34 false t ≡ Some rest → length rest + 1 ≤ length t
+units-within t rest e = units-longer 34 t rest (units-some 34 refl refl t rest e)

@@ -22,6 +22,23 @@ abbrev pub past_comment : Text → Option Text
 past_comment [] = None
 past_comment (b ∷ t) = if b == 47 then Some (past_line t) else if b == 42 then past_block false t else None
 
+abbrev pub opens_comment : Text → Bool
+opens_comment [] = false
+opens_comment (b ∷ t) = b == 47 || b == 42
+
+-- after a byte of a hex literal, or the comment that it begins
+abbrev pub past_hex_piece : ℕ → Text → Option Text
+past_hex_piece b t = if b == 47 && opens_comment t then past_comment t else Some t
+
+abbrev pub hex_next : Option Text → Option (Bool × Text)
+hex_next None = None
+hex_next (Some t) = Some (false, t)
+
+-- after a byte or a comment of a hex literal; the flag says that the byte was the closing one
+unfoldable pub hex_step : Text → Option (Bool × Text)
+hex_step [] = None
+hex_step (b ∷ t) = if b == 125 then Some (true, t) else hex_next (past_hex_piece b t)
+
 -- after one blank or closed comment
 unfoldable pub past_piece : Text → Option Text
 past_piece [] = None

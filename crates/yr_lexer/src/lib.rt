@@ -3,6 +3,7 @@
 
 mod fault;
 mod gap;
+mod hex;
 mod number;
 mod reserved;
 mod scan;

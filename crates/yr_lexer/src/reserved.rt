@@ -1,9 +1,9 @@
 //! Reserved words.
 
-ghost use Rattle.std.specs.Prelude.{◌≡◌, ◌↔◌, IsTrue};
+ghost use Rattle.std.specs.Prelude.{◌≡◌, ◌↔◌, IsTrue, map};
 ghost use Rattle.std.specs.List.{list_any};
 ghost use Rattle.std.specs.Str.{bytes_eq};
-ghost use Rattle.yr_base.specs.Words.{IsReserved};
+ghost use Rattle.yr_base.specs.Words.{IsReserved, reserved_words};
 
 static RESERVED: [&[u8]; 51] = [
     b"all", b"and", b"any", b"ascii", b"at", b"base64", b"base64wide", b"condition", b"contains", b"defined", b"endswith", b"entrypoint", b"false",
@@ -18,9 +18,15 @@ fn is_among(words: &[&[u8]], word: &[u8]) -> bool
     words.iter().any(|w| *w == word)
 }
 
+fn reserved_words() -> &'static [&'static [u8]]
+    ensures { map (λ w. w.now) result.now ≡ reserved_words }
+{
+    &RESERVED
+}
+
 /// Whether a word is reserved.
 pub fn is_reserved(word: &[u8]) -> bool
     ensures { IsTrue result ↔ IsReserved word.now }
 {
-    is_among(&RESERVED, word)
+    is_among(reserved_words(), word)
 }

@@ -1,20 +1,26 @@
 //! The token at a place.
 
-ghost use Rattle.std.specs.Prelude.{◌≡◌, ◌≢◌, ◌∷◌, [], Bool, List, ℕ, true, false, MatchResult, length, ◌≤◌, ◌^◌, ◌<◌, nat_lt};
+ghost use Rattle.std.specs.Prelude.{◌≡◌, ◌≢◌, ◌∷◌, [], Bool, List, ℕ, true, false, MatchResult, length, ◌≤◌, ◌^◌, ◌<◌, ◌&&◌, ◌==◌};
 ghost use Rattle.yr_base.specs.Bytes.{is_word_start};
 ghost use Rattle.yr_lexer.specs.Gaps.{Text, Piece};
 ghost use Rattle.yr_lexer.specs.Texts.{digit_of};
+ghost use Rattle.yr_lexer.specs.Forms.{name_length};
 ghost use Rattle.yr_lexer.specs.Faults.{IsFirstFault};
-ghost use Rattle.yr_lexer.specs.Candidates.{IsCandidate};
+ghost use Rattle.yr_lexer.specs.Tokens.{IsToken};
+ghost use Rattle.yr_lexer.specs.Candidates.{IsCandidate, IsNoWord, IsOther};
 ghost use Rattle.yr_lexer.specs.Reading as reading;
 
 use crate::fault::FaultRow;
+use crate::hex::past_hex;
 use crate::number::{is_float, number_in, TOO_LARGE};
 use crate::reserved::is_reserved;
 use crate::sign::{flags_of, past_byte, past_sign};
 use crate::text::{has_good_escapes, past_units};
 use crate::token::TokenKind;
 use yr_base::is_word_byte;
+
+/// The most bytes of a name.
+const NAME_LIMIT: usize = 128;
 
 #[tactic(auto, unfolding(crate::specs::Reading::past_word))]
 fn past_word(text: &[u8]) -> &[u8]
@@ -88,7 +94,7 @@ fn number(text: &[u8]) -> Result<(TokenKind, &[u8]), FaultRow>
 }
 
 /// A text, behind its quote.
-fn text(behind: &[u8]) -> Result<(TokenKind, &[u8]), FaultRow>
+fn quoted(behind: &[u8]) -> Result<(TokenKind, &[u8]), FaultRow>
     ensures { (after_equals : Bool) → MatchResult result (λ x. IsCandidate after_equals (34 ∷ behind.now) x.0 x.1.now) (λ f. IsFirstFault f after_equals (34 ∷ behind.now)) }
 {
     match past_units(b'"', behind) {
@@ -123,6 +129,107 @@ fn regex(behind: &[u8]) -> Result<(TokenKind, &[u8]), FaultRow>
                 },
                 flags.rest,
             ))
+        }
+    }
+}
+
+/// A hex literal, behind its brace.
+fn hex(behind: &[u8]) -> Result<(TokenKind, &[u8]), FaultRow>
+    ensures { MatchResult result (λ x. IsCandidate true (123 ∷ behind.now) x.0 x.1.now) (λ f. IsFirstFault f true (123 ∷ behind.now)) }
+{
+    match past_hex(behind) {
+        None => Err(FaultRow::Unclosed),
+        Some(rest) => Ok((TokenKind::Hex, rest)),
+    }
+}
+
+fn begins_hex(after_equals: bool, b: u8) -> bool
+    ensures { result ≡ (after_equals && b == 123) }
+{
+    after_equals && b == b'{'
+}
+
+/// What stands behind a byte that is no letter, digit, `_`, quote, `/`, `$`, `#`, `@` or `!`: a hex literal or a sign.
+fn hex_or_sign(after_equals: bool, b: u8, behind: &[u8]) -> Result<(TokenKind, &[u8]), FaultRow>
+    requires { IsOther b }
+    ensures { MatchResult result (λ x. IsCandidate after_equals (b ∷ behind.now) x.0 x.1.now) (λ f. IsFirstFault f after_equals (b ∷ behind.now)) }
+{
+    if begins_hex(after_equals, b) {
+        return hex(behind);
+    }
+    match past_sign(b, behind) {
+        None => Err(FaultRow::BadByte),
+        Some(rest) => Ok((TokenKind::Sign, rest)),
+    }
+}
+
+/// What stands behind a byte that is no letter, digit, `_`, quote or `/`.
+fn name_or_sign(after_equals: bool, b: u8, behind: &[u8]) -> Result<(TokenKind, &[u8]), FaultRow>
+    requires { IsNoWord b }
+    ensures { MatchResult result (λ x. IsCandidate after_equals (b ∷ behind.now) x.0 x.1.now) (λ f. IsFirstFault f after_equals (b ∷ behind.now)) }
+{
+    match b {
+        b'$' => Ok(string_name(behind)),
+        b'#' => Ok((TokenKind::CountName, past_word(behind))),
+        b'@' => Ok((TokenKind::PlaceName, past_word(behind))),
+        b'!' => Ok(length_name(behind)),
+        _ => hex_or_sign(after_equals, b, behind),
+    }
+}
+
+/// The longest token that begins with this byte, or the first fault but that of a long name.
+fn candidate<'a>(
+    after_equals: bool,
+    b: u8,
+    behind: &'a [u8],
+    text: &'a [u8],
+) -> Result<(TokenKind, &'a [u8]), FaultRow>
+    requires whole { text.now ≡ b ∷ behind.now }
+    requires no_piece { (rest : Text) → ¬ Piece text.now rest }
+    ensures { MatchResult result (λ x. IsCandidate after_equals text.now x.0 x.1.now) (λ f. IsFirstFault f after_equals text.now) }
+{
+    if b.is_ascii_alphabetic() || b == b'_' {
+        return Ok(word(text));
+    }
+    if b.is_ascii_digit() {
+        return number(text);
+    }
+    match b {
+        b'"' => quoted(behind),
+        b'/' => regex(behind),
+        _ => name_or_sign(after_equals, b, behind),
+    }
+}
+
+/// The bytes of a token's name, the sign before it and the `*` behind it left out.
+fn name_length(kind: TokenKind, length: usize) -> usize
+    ensures { result ≡ name_length kind length }
+{
+    match kind {
+        TokenKind::Word => length,
+        TokenKind::StringName
+        | TokenKind::CountName
+        | TokenKind::PlaceName
+        | TokenKind::LengthName => length.saturating_sub(1),
+        TokenKind::StringWild => length.saturating_sub(2),
+        _ => 0,
+    }
+}
+
+/// The token that begins here and what follows it, or the first fault.
+pub fn scan(after_equals: bool, text: &[u8]) -> Result<(TokenKind, &[u8]), FaultRow>
+    requires some { text.now ≢ [] }
+    requires no_piece { (rest : Text) → ¬ Piece text.now rest }
+    ensures { MatchResult result (λ x. IsToken after_equals text.now x.0 x.1.now) (λ f. IsFirstFault f after_equals text.now) }
+{
+    match text {
+        [] => Err(FaultRow::BadByte),
+        [b, behind @ ..] => {
+            let (kind, rest) = candidate(after_equals, *b, behind, text)?;
+            if name_length(kind, text.len() - rest.len()) > NAME_LIMIT {
+                return Err(FaultRow::LongName);
+            }
+            Ok((kind, rest))
         }
     }
 }
