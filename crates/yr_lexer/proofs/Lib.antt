@@ -15,3 +15,5 @@ pub mod HexLemmas
 pub mod KindLemmas
 pub mod ListLemmas
 pub mod TokenLemmas
+pub mod Whole
+pub mod FormLemmas

@@ -4,6 +4,7 @@
 mod fault;
 mod gap;
 mod hex;
+mod lexing;
 mod number;
 mod reserved;
 mod scan;
@@ -15,6 +16,7 @@ mod tokens;
 
 pub use fault::{GatherFault, LexFault};
 pub use text::unescape;
+pub use lexing::lex;
 pub use source::{FileToken, SourceFile};
 pub use token::{Token, TokenKind};
 pub use tokens::Tokens;
