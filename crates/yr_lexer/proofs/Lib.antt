@@ -17,3 +17,5 @@ pub mod ListLemmas
 pub mod TokenLemmas
 pub mod Whole
 pub mod FormLemmas
+pub mod OneLemmas
+pub mod CallerLemmas
