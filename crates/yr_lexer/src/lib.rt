@@ -4,6 +4,7 @@
 mod fault;
 mod gap;
 mod hex;
+mod laws;
 mod lexing;
 mod number;
 mod reserved;
@@ -16,6 +17,7 @@ mod tokens;
 
 pub use fault::{GatherFault, LexFault};
 pub use text::unescape;
+pub use laws::{one_answer, one_meaning};
 pub use lexing::lex;
 pub use source::{FileToken, SourceFile};
 pub use token::{Token, TokenKind};
