@@ -3,6 +3,7 @@ pub mod Words
 pub mod Places
 pub mod Gives
 pub mod Causes
+pub mod Digits
 pub mod Told
 pub mod Trace
 pub mod Store
