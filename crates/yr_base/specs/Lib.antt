@@ -7,5 +7,6 @@ pub mod Digits
 pub mod Told
 pub mod Trace
 pub mod Store
+pub mod Notes
 pub mod Sink
 pub mod Memory

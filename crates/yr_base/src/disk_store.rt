@@ -20,7 +20,9 @@ pub struct DiskStore<R: Files + Drop> {
 
 impl<R: Files + Drop> DiskStore<R> {
     /// The files that a runtime reaches.
-    pub fn new(rt: R) -> DiskStore<R> {
+    pub fn new(rt: R) -> DiskStore<R>
+        ensures { result.fault_count ≡ 0 }
+    {
         DiskStore { rt, fault_count: 0 }
     }
 }

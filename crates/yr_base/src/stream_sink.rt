@@ -14,7 +14,9 @@ pub struct StreamSink<W: Write + Drop> {
 
 impl<W: Write + Drop> StreamSink<W> {
     /// A sink that hands on to a writer.
-    pub fn new(writer: W) -> StreamSink<W> {
+    pub fn new(writer: W) -> StreamSink<W>
+        ensures { result.fault_count ≡ 0 }
+    {
         StreamSink {
             writer,
             fault_count: 0,
