@@ -7,11 +7,7 @@ use yr_base::Border;
 #[derive(Debug, PartialEq, Eq, Drop)]
 pub enum VariantBody {
     /// Bytes that the file's bytes give by exclusive or with `key`, in either case of letters where `fold` holds.
-    Literal {
-        bytes: Vec<u8>,
-        key: u8,
-        fold: bool,
-    },
+    Literal { bytes: Vec<u8>, key: u8, fold: bool },
     /// A pattern.
     Shape(Pattern),
 }
