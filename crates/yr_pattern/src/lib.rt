@@ -2,12 +2,20 @@
 #![tactic(auto)]
 
 mod byte_set;
+mod copying;
+mod folding;
 mod pattern;
+mod reversing;
 mod sizes;
 mod variant;
+mod widening;
 
 pub use byte_set::ByteSet;
+pub use copying::copy;
+pub use folding::fold;
 pub use pattern::Pattern;
+pub use reversing::reverse;
 pub use sizes::size;
 pub use variant::{Variant, VariantBody};
+pub use widening::widen;
 pub use yr_base::Border;
