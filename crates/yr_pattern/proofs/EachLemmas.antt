@@ -35,7 +35,7 @@ reverse_onto-trees_of [] after = refl
 reverse_onto-trees_of (x ∷ xs) after =
     reverse_onto-trees_of xs (reverse_tree x ∷ after)
     ∙ ap trees_of (sym (append_assoc (reverse (map reverse_tree xs)) (reverse_tree x ∷ []) after)
-        ∙ ap (λ l. l ++ after) (sym (reverse-cons (reverse_tree x) (map reverse_tree xs))))
+    ∙ ap (λ l. l ++ after) (sym (reverse-cons (reverse_tree x) (map reverse_tree xs))))
 
 reverse_onto-none : (xs : List Tree) → reverse_onto (trees_of xs) none ≡ trees_of (reverse (map reverse_tree xs))
 reverse_onto-none xs = reverse_onto-trees_of xs [] ∙ ap trees_of (append-nil (reverse (map reverse_tree xs)))

@@ -7,3 +7,4 @@ pub mod Widen
 pub mod Fold
 pub mod Variants
 pub mod Counts
+pub mod Rows

@@ -27,6 +27,11 @@ abbrev pub trees_of : List Tree → Trees
 trees_of [] = none
 trees_of (t ∷ ts) = more t (trees_of ts)
 
+-- these, and then those
+abbrev pub join : Trees → Trees → Trees
+join none us = us
+join (more t ts) us = more t (join ts us)
+
 -- one node, with the tree of each child in its place
 abbrev pub node_tree : Pattern-F Tree → Tree
 node_tree Pattern-F.Empty = Empty

@@ -4,6 +4,7 @@
 mod byte_set;
 mod copying;
 mod folding;
+pub mod laws;
 mod pattern;
 mod reversing;
 mod sizes;

@@ -1,6 +1,9 @@
 //! Variants of a string.
 
+ghost use Rattle.std.specs.Prelude.{◌≡◌, ◌-◌, ◌^◌, min};
+
 use crate::pattern::Pattern;
+use crate::sizes::size;
 use yr_base::Border;
 
 /// What a variant looks for.
@@ -17,4 +20,18 @@ pub enum VariantBody {
 pub struct Variant {
     pub body: VariantBody,
     pub border: Border,
+}
+
+impl Variant {
+    ghost use Rattle.yr_pattern.specs.Variants.{variant_of, variant_size};
+
+    /// The length of a literal, or the size of a pattern.
+    pub fn size(&self) -> u64
+        ensures { result ≡ min (variant_size (variant_of self.now)) (2 ^ 64 - 1) }
+    {
+        match &self.body {
+            VariantBody::Literal { bytes, .. } => bytes.len() as u64,
+            VariantBody::Shape(pattern) => size(pattern),
+        }
+    }
 }

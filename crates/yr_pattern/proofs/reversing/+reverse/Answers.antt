@@ -9,7 +9,7 @@ pub reverse-returns-in_ok-all-in-Seq : goal.reverse-returns-in_ok-all-in-Seq
 reverse-returns-in_ok-all-in-Seq t c =
     tree_of-Seq c.reverse.new.self
     ∙ ap Seq (tree_of-reverse c.in-Seq.members.items c.in_ok-all-in-Seq.all.items c.reverse.new.self.items
-        (c.in_ok-all-in-Seq.ensures ∙ ap (λ l. map reverse_tree (map tree_of l)) c.deref.ensures.value) c.reverse.ensures.items)
+    (c.in_ok-all-in-Seq.ensures ∙ ap (λ l. map reverse_tree (map tree_of l)) c.deref.ensures.value) c.reverse.ensures.items)
     ∙ ap reverse_tree (sym (ap tree_of c.in-Seq.is ∙ tree_of-Seq c.in-Seq.members))
 
 pub reverse-returns-in_ok-all-in-Alt : goal.reverse-returns-in_ok-all-in-Alt
