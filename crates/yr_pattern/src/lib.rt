@@ -14,11 +14,11 @@ mod variant;
 mod widening;
 
 pub use byte_set::ByteSet;
-pub use copying::copy;
+pub use copying::{copy, copy_each};
 pub use folding::fold;
 pub use pattern::Pattern;
 pub use reversing::reverse;
-pub use sizes::size;
+pub use sizes::{size, sum_of_sizes};
 pub use variant::{Variant, VariantBody};
 pub use widening::widen;
 pub use yr_base::Border;
