@@ -2,6 +2,7 @@
 use Rattle.yr_pattern.specs.Tree.{Tree, Trees, Empty, One, Seq, Alt, Rep, Start, End, Edge, NotEdge, WideEdge, WideNotEdge, none, more}
 
 abbrev mutual
+  -- each sequence turned round, at every depth
   pub reverse_tree : Tree → Tree
   reverse_tree Empty = Empty
   reverse_tree (One bytes) = One bytes
@@ -20,6 +21,7 @@ abbrev mutual
   reverse_onto none after = after
   reverse_onto (more t ts) after = reverse_onto ts (more (reverse_tree t) after)
 
+  -- each turned round, in the order in which they stand
   pub reverse_each : Trees → Trees
   reverse_each none = none
   reverse_each (more t ts) = more (reverse_tree t) (reverse_each ts)

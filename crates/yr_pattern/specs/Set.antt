@@ -16,9 +16,11 @@ bytes_of set b = has_bit set.bits b
 abbrev pub Has : (ℕ → Bool) → ℕ → Type 0
 Has bytes b = bytes b ≡ true
 
+-- no byte
 abbrev pub no_byte : ℕ → Bool
 no_byte b = false
 
+-- one byte
 abbrev pub only : ℕ → ℕ → Bool
 only a b = b == a
 
@@ -34,6 +36,7 @@ all_but bytes b = nat_lt b 256 && not (bytes b)
 abbrev pub raised : ℕ → ℕ
 raised b = if is_lower b then b - 32 else b
 
+-- every byte
 abbrev pub any_byte : ℕ → Bool
 any_byte = all_but no_byte
 

@@ -2,7 +2,7 @@
 use Rattle.std.specs.Prelude.{ℕ, zero, suc, ◌+◌, ◌-◌, ◌*◌, Option, Some, None, nat_lt, if◌then◌else◌}
 use Rattle.yr_pattern.specs.Tree.{Tree, Trees, Empty, One, Seq, Alt, Rep, Start, End, Edge, NotEdge, WideEdge, WideNotEdge, none, more}
 
--- how many they are
+-- how many there are
 abbrev pub members : Trees → ℕ
 members none = 0
 members (more t ts) = members ts + 1
@@ -18,6 +18,7 @@ rep_size size min None = (min + 1) * size + 1
 rep_size size min (Some max) = if nat_lt max min then 1 else (max * size + (max - min))
 
 abbrev mutual
+  -- a byte and an assertion are one move each; a choice and a loop have moves of their own
   pub size_of : Tree → ℕ
   size_of Empty = 0
   size_of (One bytes) = 1

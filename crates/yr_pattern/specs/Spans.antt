@@ -25,6 +25,7 @@ Backwards file bytes i j = (i ≡ j + 1) × (j < length file) × Has bytes (slic
 -- from i to j by the pattern, where `read` says how one byte is read. An assertion looks at the file beside its place.
 module _ (read : (ℕ → Bool) → ℕ → ℕ → Type 0) (file : List ℕ) where
   abbrev mutual
+    -- by cases on the pattern
     pub Walk : Tree → ℕ → ℕ → Type 0
     Walk Empty i j = i ≡ j
     Walk (One bytes) i j = read bytes i j

@@ -6,6 +6,7 @@ use Rattle.yr_pattern.specs.declared.pattern.Pattern.TheFolds.{fold-Pattern}
 use Rattle.yr_pattern.specs.Set.{bytes_of}
 
 mutual
+  -- one node for each kind of pattern
   pub data Tree : Type 0 where
     Empty : Tree
     One : (bytes : ℕ → Bool) → Tree
@@ -19,10 +20,12 @@ mutual
     WideEdge : Tree
     WideNotEdge : Tree
 
+  -- members or branches, in order
   pub data Trees : Type 0 where
     none : Trees
     more : Tree → Trees → Trees
 
+-- a list of trees, as the trees of a node
 abbrev pub trees_of : List Tree → Trees
 trees_of [] = none
 trees_of (t ∷ ts) = more t (trees_of ts)

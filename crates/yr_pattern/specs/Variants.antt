@@ -12,10 +12,12 @@ pub data Body : Type 0 where
   Literal : (bytes : List ℕ) → (key : ℕ) → (fold : Bool) → Body
   Shape : Tree → Body
 
+-- a body, and what must stand beside a span of it
 pub record PlainVariant : Type 0 where
   pub body : Body
   pub border : Border
 
+-- the plain body that a body stands for
 abbrev pub body_of : code.VariantBody → Body
 body_of (code_body.Literal bytes key fold) = Literal bytes.items key fold
 body_of (code_body.Shape pattern) = Shape (tree_of pattern)
@@ -29,5 +31,6 @@ abbrev pub body_size : Body → ℕ
 body_size (Literal bytes key fold) = length bytes
 body_size (Shape tree) = size_of tree
 
+-- the size of its body
 abbrev pub variant_size : PlainVariant → ℕ
 variant_size v = body_size v.body

@@ -3,6 +3,7 @@ use Rattle.yr_pattern.specs.Set.{only}
 use Rattle.yr_pattern.specs.Tree.{Tree, Trees, Empty, One, Seq, Alt, Rep, Start, End, Edge, NotEdge, WideEdge, WideNotEdge, none, more}
 
 abbrev mutual
+  -- each byte is followed by a byte 00, each edge is a wide edge
   pub widen_tree : Tree → Tree
   widen_tree Empty = Empty
   widen_tree (One bytes) = Seq (more (One bytes) (more (One (only 0)) none))
@@ -16,6 +17,7 @@ abbrev mutual
   widen_tree WideEdge = WideEdge
   widen_tree WideNotEdge = WideNotEdge
 
+  -- each of them widened
   pub widen_each : Trees → Trees
   widen_each none = none
   widen_each (more t ts) = more (widen_tree t) (widen_each ts)
