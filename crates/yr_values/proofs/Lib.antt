@@ -1,1 +1,3 @@
+mod FoldedLemmas
 mod NumberLemmas
+mod TextLemmas

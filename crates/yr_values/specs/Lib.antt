@@ -3,6 +3,7 @@ pub mod Operators
 pub mod Numbers
 pub mod Texts
 pub mod Comparisons
+pub mod Folded
 pub mod Readers
 pub mod Quantifiers
 pub mod Modules

@@ -7,6 +7,7 @@ ghost use Rattle.yr_values.specs.Values.{shown};
 ghost use Rattle.yr_values.specs.Texts.{begins_with, ends_with, has_inside, in_either_case};
 ghost use Rattle.yr_values.specs.Texts.{contains_of, icontains_of, startswith_of, istartswith_of, endswith_of, iendswith_of, iequals_of};
 
+use crate::folded::has_inside_in_either_case;
 use crate::operand::text;
 use memchr::memmem;
 use yr_base::Value;
@@ -25,6 +26,16 @@ fn has_inside(text: &[u8], part: &[u8]) -> bool
     ensures { result ≡ has_inside text.now part.now }
 {
     memmem::find(text, part).is_some()
+}
+
+/// `v icontains w`, in a time linear in both texts.
+pub fn icontains(v: &Value<'_>, w: &Value<'_>) -> Value<'static>
+    ensures { shown result ≡ icontains_of (shown v.now) (shown w.now) }
+{
+    match (text(v), text(w)) {
+        (Some(t), Some(part)) => Value::Flag(has_inside_in_either_case(t, part)),
+        _ => Value::Undefined,
+    }
 }
 
 /// `v startswith w`.
