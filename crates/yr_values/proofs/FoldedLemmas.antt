@@ -1,14 +1,13 @@
 -- The search in either case: its orders, its cuts, and what it finds.
-use Rattle.std.proofs.Common.{◌≡◌, ◌⊎◌, ℕ, ◌+◌, ◌-◌, ◌<◌, ◌≤◌, List, length, map, slice_index, Option, refl, sym, ap, subst, ◌∙◌, arith, inl, inr, ⊎_elim}
+use Rattle.std.proofs.Common.{◌≡◌, ℕ, ◌+◌, ◌-◌, ◌<◌, ◌≤◌, List, length, map, Option, refl, sym, subst, ◌∙◌, arith, inl, inr, ⊎_elim}
 use Rattle.std.proofs.lemmas.List.{length-map, get_or-map}
 use Rattle.memchr.specs.Find.{IsFirst, FindsNeedle, OccursAt}
-use Rattle.memchr.specs.Critical.{IsPeriod}
 use Rattle.memchr.specs.TwoWay.{IsCut}
 use Rattle.memchr.specs.declared.arch.all.twoway.Shift.TheVariants.{Small, Large}
 use Rattle.memchr.proofs.lemmas.FindLemmas.{IsFirst-agree}
 use Rattle.memchr.proofs.lemmas.SearchLemmas.{IsShift-large, IsShift-small, known-next}
 use Rattle.yr_base.specs.Bytes.{lowered}
-use Rattle.yr_values.specs.Folded.{folded_at, StandsFolded, Comes, IsCutOf}
+use Rattle.yr_values.specs.Folded.{StandsFolded, Comes, IsCutOf}
 use Rattle.yr_values.specs.declared.folded.SuffixOrder.{SuffixOrder}
 use Rattle.yr_values.specs.declared.folded.SuffixOrder.TheVariants.{Minimal, Maximal}
 

@@ -1,3 +1,4 @@
 mod FoldedLemmas
+pub mod KindLemmas
 mod NumberLemmas
 mod TextLemmas

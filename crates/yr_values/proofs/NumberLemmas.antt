@@ -1,8 +1,8 @@
 -- Quotients by -1, and products with powers of two.
-use Rattle.std.proofs.Common.{◌≡◌, ℕ, zero, suc, ◌/◌, ◌%◌, ◌*◌, ◌^◌, ◌<◌, refl, sym, ap, ◌∙◌, arith}
+use Rattle.std.proofs.Common.{◌≡◌, ℕ, zero, suc, ◌/◌, ◌^◌, ◌<◌, refl, sym, ap, ◌∙◌, arith}
 use Rattle.std.specs.Prelude.{ℤ, pos, negsuc, neg_ℤ, ◌*ℤ◌, int_div, FitsSigned}
 use Rattle.std.specs.Int.{w64, int_wrap, int_shl, cast_signed, cast_unsigned}
-use Rattle.std.proofs.lemmas.Int.{wrapping_mul_onto, wrapping_mul-bits, int_wrap-mul_right}
+use Rattle.std.proofs.lemmas.Int.{wrapping_mul-bits, int_wrap-mul_right}
 use Rattle.std.proofs.Math.Facts.{to_z-of_z}
 use Rattle.std.proofs.Math.Nat.{mod-eq_of_lt}
 use Rattle.yr_values.specs.Numbers.{in_64_bits}

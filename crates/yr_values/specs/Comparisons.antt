@@ -1,5 +1,5 @@
 -- The comparisons: of two numbers, of two flags, and of two texts by their bytes.
-use Rattle.std.specs.Prelude.{ℕ, ℤ, Bool, true, false, not, List, int_lt}
+use Rattle.std.specs.Prelude.{ℕ, Bool, true, false, not, List, int_lt}
 use Rattle.std.specs.Ordering.{int_eq, nat_cmp, is_lt}
 use Rattle.std.specs.Cmp.Lexicographic.{slice_cmp}
 use Rattle.std.specs.Str.{bytes_eq}

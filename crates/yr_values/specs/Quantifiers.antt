@@ -1,5 +1,5 @@
 -- When as many members or turns hold as a quantifier asks.
-use Rattle.std.specs.Prelude.{ℕ, zero, suc, ◌*◌, ◌==◌, nat_le, ℤ, pos, negsuc, ◌*ℤ◌, int_le, Bool, true}
+use Rattle.std.specs.Prelude.{ℕ, zero, suc, ◌*◌, ◌==◌, nat_le, pos, negsuc, ◌*ℤ◌, int_le, Bool, true}
 use Rattle.yr_values.specs.declared.quantifier.Quantifier.{Quantifier}
 use Rattle.yr_values.specs.declared.quantifier.Quantifier.TheVariants as quantifier
 

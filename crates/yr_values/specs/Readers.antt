@@ -2,7 +2,7 @@
 use Rattle.std.specs.Prelude.{ℕ, ◌+◌, ℤ, pos, negsuc, List, length, slice_range, nat_le, if◌then◌else◌, Option, None, Some}
 use Rattle.std.specs.Int.{w8, w16, w32, cast_signed}
 use Rattle.byteorder.specs.Endian.{little_number, big_number}
-use Rattle.yr_values.specs.Values.{Value, Undefined, Number}
+use Rattle.yr_values.specs.Values.{Value, Number}
 use Rattle.yr_values.specs.Operators.{of_one}
 
 -- the n bytes from a place on, where they lie in the file

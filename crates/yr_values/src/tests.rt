@@ -22,7 +22,7 @@ fn t(text: &[u8]) -> Value<'_> {
 
 // Fields of a file of two bytes: 1 is its text, 2 its length.
 struct TwoBytes<'a> {
-    file: &'a [u8; 2],
+    file: &'a [u8],
 }
 
 impl Modules for TwoBytes<'_> {

@@ -1,6 +1,6 @@
 use Rattle.std.proofs.Common.{◌≡◌, ap, sym, ◌∙◌}
 use Rattle.std.specs.Prelude.{negsuc, neg_ℤ}
-use Rattle.std.specs.Int.{w64, int_wrap, int_wrapping_neg, cast_signed as to_z, cast_unsigned as of_z}
+use Rattle.std.specs.Int.{w64, int_wrapping_neg, cast_signed as to_z, cast_unsigned as of_z}
 use Rattle.std.proofs.lemmas.Int.{wrapping_neg_is, SFits-int_wrap}
 use Rattle.std.proofs.Math.Facts.{to_z-of_z}
 use Rattle.yr_values.specs.Values.{Number}

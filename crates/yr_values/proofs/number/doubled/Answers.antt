@@ -1,6 +1,6 @@
-use Rattle.std.proofs.Common.{◌≡◌, ◌%◌, ◌^◌, ◌<◌, ap, ◌∙◌}
+use Rattle.std.proofs.Common.{◌≡◌, ◌%◌, ◌^◌, ap, ◌∙◌}
 use Rattle.std.specs.Prelude.{pos, ◌*ℤ◌, FitsSigned}
-use Rattle.std.specs.Int.{w64, int_shl, cast_unsigned}
+use Rattle.std.specs.Int.{w64, int_shl}
 use Rattle.std.proofs.Math.Nat.{mod-eq_of_lt}
 use Rattle.std.proofs.Math.Pow.{pow-lt}
 use Rattle.std.proofs.Math.Facts.{to_z-of_z}
