@@ -16,3 +16,10 @@ abbrev pub Suits : Option Kind → Value → Type 0
 Suits None v = v ≡ Undefined
 Suits (Some k) Undefined = Unit {0}
 Suits (Some k) v = IsOfKind k v
+
+-- a number or undefined, and a flag or undefined
+abbrev pub SuitsNumber : Value → Type 0
+SuitsNumber = Suits (Some kind.Number)
+
+abbrev pub SuitsFlag : Value → Type 0
+SuitsFlag = Suits (Some kind.Flag)

@@ -91,7 +91,8 @@ fn greatest_suffix(part: &[u8], order: SuffixOrder) -> Suffix
 // Whether the bytes before the cut repeat a period on.
 fn repeats_before(part: &[u8], critical: usize, period: usize) -> bool
     requires { critical + period ≤ length part.now }
-    ensures { IsTrue result ↔ ((k : ℕ) → k < critical → folded_at part.now k ≡ folded_at part.now (k + period)) }
+    ensures { IsTrue result ↔ ((k : ℕ) → k < critical →
+        folded_at part.now k ≡ folded_at part.now (k + period)) }
 {
     for k in 0..critical {
         if folded(part, k) != folded(part, k + period) {
@@ -171,7 +172,8 @@ fn matched_to(text: &[u8], part: &[u8], at: usize, start: usize) -> usize
 fn matches_between(text: &[u8], part: &[u8], at: usize, low: usize, high: usize) -> bool
     requires fits { at + length part.now ≤ length text.now }
     requires top { high ≤ length part.now }
-    ensures { IsTrue result ↔ ((k : ℕ) → low ≤ k → k < high → folded_at part.now k ≡ folded_at text.now (at + k)) }
+    ensures { IsTrue result ↔ ((k : ℕ) → low ≤ k → k < high →
+        folded_at part.now k ≡ folded_at text.now (at + k)) }
 {
     let mut j = high;
     while low < j {

@@ -8,43 +8,46 @@ ghost use Rattle.yr_values.specs.Comparisons.{less_of, greater_of, at_most_of, a
 ghost use Rattle.yr_values.specs.Texts.{contains_of, icontains_of, startswith_of, endswith_of};
 ghost use Rattle.yr_values.specs.Readers.{read_at, uint8_of, uint16_of, uint16be_of, int8_of};
 ghost use Rattle.yr_values.specs.Quantifiers.{meets};
-ghost use Rattle.yr_values.specs.Modules.{Suits};
+ghost use Rattle.yr_values.specs.Modules.{SuitsNumber, SuitsFlag};
 
 use crate::quantifier::Quantifier;
-use yr_base::Kind;
 
 /// Each operator on numbers, and each reader, gives a number or undefined, whatever its operands are.
 pub fn operators_give_numbers()
-    ensures sums { (v w : Value) → Suits (Some Kind.Number) (sum_of v w) × Suits (Some Kind.Number) (difference_of v w) }
-    ensures products { (v w : Value) → Suits (Some Kind.Number) (product_of v w) × Suits (Some Kind.Number) (negation_of v) }
-    ensures quotients { (v w : Value) → Suits (Some Kind.Number) (quotient_of v w) × Suits (Some Kind.Number) (remainder_of v w) }
-    ensures bits { (v w : Value) → Suits (Some Kind.Number) (complement_of v) × Suits (Some Kind.Number) (bit_and_of v w)
-        × Suits (Some Kind.Number) (bit_or_of v w) × Suits (Some Kind.Number) (bit_xor_of v w) }
-    ensures shifts { (v w : Value) → Suits (Some Kind.Number) (left_shift_of v w) × Suits (Some Kind.Number) (right_shift_of v w) }
-    ensures readers { (n : ℕ) (number : List ℕ → ℤ) (file : List ℕ) (v : Value) → Suits (Some Kind.Number) (read_at n number file v) }
+    ensures sums { (v w : Value) → SuitsNumber (sum_of v w) × SuitsNumber (difference_of v w) }
+    ensures products { (v w : Value) → SuitsNumber (product_of v w) × SuitsNumber (negation_of v) }
+    ensures quotients { (v w : Value) → SuitsNumber (quotient_of v w) × SuitsNumber (remainder_of v w) }
+    ensures bits { (v w : Value) → SuitsNumber (complement_of v) × SuitsNumber (bit_and_of v w)
+        × SuitsNumber (bit_or_of v w) × SuitsNumber (bit_xor_of v w) }
+    ensures shifts { (v w : Value) → SuitsNumber (left_shift_of v w) × SuitsNumber (right_shift_of v w) }
+    ensures readers { (n : ℕ) (number : List ℕ → ℤ) (file : List ℕ) (v : Value) → SuitsNumber (read_at n number file v) }
 {}
 
 /// All other operators give a flag or undefined.
 pub fn operators_give_flags()
-    ensures orders { (v w : Value) → Suits (Some Kind.Flag) (less_of v w) × Suits (Some Kind.Flag) (greater_of v w)
-        × Suits (Some Kind.Flag) (at_most_of v w) × Suits (Some Kind.Flag) (at_least_of v w) }
-    ensures equalities { (v w : Value) → Suits (Some Kind.Flag) (equal_of v w) × Suits (Some Kind.Flag) (unequal_of v w) }
-    ensures texts { (test : List ℕ → List ℕ → Bool) (v w : Value) → Suits (Some Kind.Flag) (on_texts test v w) }
-    ensures contrary { (v : Value) → Suits (Some Kind.Flag) (contrary_of v) }
+    ensures orders { (v w : Value) → SuitsFlag (less_of v w) × SuitsFlag (greater_of v w)
+        × SuitsFlag (at_most_of v w) × SuitsFlag (at_least_of v w) }
+    ensures equalities { (v w : Value) → SuitsFlag (equal_of v w) × SuitsFlag (unequal_of v w) }
+    ensures texts { (test : List ℕ → List ℕ → Bool) (v w : Value) → SuitsFlag (on_texts test v w) }
+    ensures contrary { (v : Value) → SuitsFlag (contrary_of v) }
 {}
 
 /// An undefined operand of a number's or a text's operator, and of a comparison, gives undefined.
 pub fn undefined_in_gives_undefined()
-    ensures numbers { (f : ℤ → ℤ → Value) (v : Value) → (on_numbers f Undefined v ≡ Undefined) × (on_numbers f v Undefined ≡ Undefined) }
-    ensures texts { (test : List ℕ → List ℕ → Bool) (v : Value) → (on_texts test Undefined v ≡ Undefined) × (on_texts test v Undefined ≡ Undefined) }
+    ensures numbers { (f : ℤ → ℤ → Value) (v : Value) →
+        (on_numbers f Undefined v ≡ Undefined) × (on_numbers f v Undefined ≡ Undefined) }
+    ensures texts { (test : List ℕ → List ℕ → Bool) (v : Value) →
+        (on_texts test Undefined v ≡ Undefined) × (on_texts test v Undefined ≡ Undefined) }
     ensures orders { (v : Value) → (less_of Undefined v ≡ Undefined) × (less_of v Undefined ≡ Undefined) }
     ensures equalities { (v : Value) → (equal_of Undefined v ≡ Undefined) × (equal_of v Undefined ≡ Undefined) }
 {}
 
 /// The greatest number and 1 is the least, and the least number is its own quotient by -1, with nothing left.
 pub fn numbers_wrap()
-    ensures sum { sum_of (Number (pos 9223372036854775807)) (Number (pos 1)) ≡ Number (negsuc 9223372036854775807) }
-    ensures quotient { quotient_of (Number (negsuc 9223372036854775807)) (Number (negsuc 0)) ≡ Number (negsuc 9223372036854775807) }
+    ensures sum { sum_of (Number (pos 9223372036854775807)) (Number (pos 1)) ≡
+        Number (negsuc 9223372036854775807) }
+    ensures quotient { quotient_of (Number (negsuc 9223372036854775807)) (Number (negsuc 0)) ≡
+        Number (negsuc 9223372036854775807) }
     ensures remainder { remainder_of (Number (negsuc 9223372036854775807)) (Number (negsuc 0)) ≡ Number (pos 0) }
     ensures negation { negation_of (Number (negsuc 9223372036854775807)) ≡ Number (negsuc 9223372036854775807) }
 {}
