@@ -1,17 +1,16 @@
 -- Each status by itself, and a scan that comes to its end.
-use Rattle.std.proofs.Common.{◌≡◌, ◌⊎◌, inl, inr, ℕ, ◌≤◌, List, [], ◌∷◌, cond, length, Option, Some, None, refl, sym, ap, subst, ◌∙◌}
+use Rattle.std.proofs.Common.{◌≡◌, ◌⊎◌, inl, inr, ℕ, List, [], cond, Option, Some, refl, sym, ap, subst, ◌∙◌}
 use Rattle.std.proofs.lemmas.Bool.{le-leb}
 use Rattle.yr_base.specs.Store.{Files}
-use Rattle.yr_cli.specs.Words.{Scan, command_of}
 use Rattle.yr_cli.specs.Front.{Rule, IsMeaning}
 use Rattle.yr_cli.specs.Back.{reported_of}
 use Rattle.yr_cli.specs.Report.{report_of}
-use Rattle.yr_cli.specs.Outcome.{Outcome, IsOutcome, CanScan, outcome_by, with_command, with_rules, with_meaning, with_target, refusal, after_read, not_built, too_long}
+use Rattle.yr_cli.specs.Outcome.{Outcome, IsOutcome, CanScan, outcome_by, with_command, with_target, refusal, too_long}
 use Rattle.yr_cli.specs.Answers.{Fits, Settles, IsSettled, IsUnread, IsUnwritten, IsOutOfMemory, Outside}
 use Rattle.yr_cli.specs.Readers.{rules_in}
 use Rattle.yr_cli.specs.declared.status.Status.{Status}
 use Rattle.yr_cli.specs.declared.status.Status.TheVariants as status
-use Rattle.yr_cli.proofs.RuleLemmas.{rules-mean, one-meaning}
+use Rattle.yr_cli.proofs.RuleLemmas.{one-meaning}
 use Rattle.yr_cli.proofs.Walk.{with_rules-read}
 
 abbrev pub FitsAll : List (List ℕ) → Files → Status → Outside → Outside → Type 0

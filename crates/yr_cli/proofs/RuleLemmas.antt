@@ -1,6 +1,6 @@
 -- A text has at most one reading, and the reader finds it.
-use Rattle.std.proofs.Common.{lit<, ◌≡◌, ◌≢◌, ℕ, ◌≤◌, ◌<◌, Bool, true, false, not, ◌&&◌, nat_lt, nat_le, List, [], ◌∷◌, ◌++◌, length, cond, Option, Some, None, Contains, codes, refl, sym, ap, subst, ◌∙◌, arith}
-use Rattle.std.specs.List.{list_any, AllPass}
+use Rattle.std.proofs.Common.{lit<, ◌≡◌, ◌≢◌, ℕ, ◌<◌, Bool, true, false, not, ◌&&◌, nat_lt, nat_le, List, [], ◌∷◌, length, cond, Option, Some, None, Contains, codes, refl, sym, ap, subst, ◌∙◌, arith}
+use Rattle.std.specs.List.{AllPass}
 use Rattle.std.specs.Option.{option_map, option_and_then}
 use Rattle.std.specs.Str.{bytes_eq}
 use Rattle.std.proofs.lemmas.Bool.{le-leb, leb-true, lt-ltb, ltb-true}
@@ -10,10 +10,10 @@ use Rattle.std.proofs.lemmas.Option.{option_and_then_some}
 use Rattle.std.proofs.lemmas.Slice.Eq.{bytes_eq-Decides}
 use Rattle.yr_base.specs.Bytes.{is_blank}
 use Rattle.yr_base.specs.Words.{reserved_words, IsReserved}
-use Rattle.yr_cli.specs.Tokens.{Token, word, string, text, sign, Begins, AreTokens}
-use Rattle.yr_cli.specs.Front.{Rule, tokens_of, IsRule, ReadsThin, Means, IsMeaning}
+use Rattle.yr_cli.specs.Tokens.{word, string, text, sign, Begins}
+use Rattle.yr_cli.specs.Front.{Rule, IsRule, ReadsThin, Means}
 use Rattle.yr_cli.specs.Readers.{unblanked, after_sign, after_word, word_in, string_in, text_in, after_label, and_sign, head_in, Declared, with_text, declared_in, at_end, condition_in, is_reserved, is_sound, checked, rule_with, rule_after, rule_in, rules_in}
-use Rattle.yr_cli.proofs.Runs.{by_test, if_some, and_true}
+use Rattle.yr_cli.proofs.Runs.{if_some, and_true}
 use Rattle.yr_cli.proofs.TokenLemmas.{option_map-some, sign-sound, sign-complete, word-sound, word-complete, this-sound, this-complete, string-sound, string-complete, text-sound, text-complete, end-sound, end-complete}
 
 -- ---- a part of the form: its tokens, and the rest
@@ -41,25 +41,25 @@ and_sign-sound s before found is h =
 label-sound : (name bytes rest : List ℕ) → after_label name bytes ≡ Some rest → Label name bytes rest
 label-sound name bytes rest h =
     option_and_then_some (after_sign 58) (after_word name bytes) rest h (λ mid e k.
-      (mid, (this-sound name bytes mid e, sign-sound 58 mid rest (2, lit< tt, refl) k)))
+    (mid, (this-sound name bytes mid e, sign-sound 58 mid rest (2, lit< tt, refl) k)))
 
 head-sound : (bytes : List ℕ) (found : List ℕ × List ℕ) → head_in bytes ≡ Some found → Head bytes found
 head-sound bytes found h =
     option_and_then_some (and_sign 123) (option_and_then word_in (after_word (codes "rule") bytes)) found h (λ named e k.
-      option_and_then_some word_in (after_word (codes "rule") bytes) named e (λ a e2 k2.
-        let last = and_sign-sound 123 named found (0, lit< tt, refl) k in
-        (a, (this-sound (codes "rule") bytes a e2, (named.1, (subst (λ (n : List ℕ). Begins a (word n) named.1) last.0 (word-sound a named k2), last.1))))))
+    option_and_then_some word_in (after_word (codes "rule") bytes) named e (λ a e2 k2.
+    let last = and_sign-sound 123 named found (0, lit< tt, refl) k in
+    (a, (this-sound (codes "rule") bytes a e2, (named.1, (subst (λ (n : List ℕ). Begins a (word n) named.1) last.0 (word-sound a named k2), last.1))))))
 
 declared-sound : (bytes : List ℕ) (found : Declared) → declared_in bytes ≡ Some found → Declares bytes found
 declared-sound bytes found h =
     option_and_then_some with_text (option_and_then (and_sign 61) (option_and_then string_in (after_label (codes "strings") bytes))) found h (λ signed e k.
-      option_and_then_some (and_sign 61) (option_and_then string_in (after_label (codes "strings") bytes)) signed e (λ named e2 k2.
-        option_and_then_some string_in (after_label (codes "strings") bytes) named e2 (λ a e3 k3.
-          let part = option_map-some (λ (t : List ℕ × List ℕ). record { string = signed.0; text = t.0; rest = t.1 }) (text_in signed.1) found k in
-          let last = and_sign-sound 61 named signed (3, lit< tt, refl) k2 in
-          let name : named.0 ≡ found.string = last.0 ∙ ap (λ (d : Declared). d.string) part.1.1 in
-          let inside : Begins signed.1 (text found.text) found.rest = subst (λ (d : Declared). Begins signed.1 (text d.text) d.rest) part.1.1 (text-sound signed.1 part.0 part.1.0) in
-          (a, (label-sound (codes "strings") bytes a e3, (named.1, (subst (λ (n : List ℕ). Begins a (string n) named.1) name (string-sound a named k3), (signed.1, (last.1, inside)))))))))
+    option_and_then_some (and_sign 61) (option_and_then string_in (after_label (codes "strings") bytes)) signed e (λ named e2 k2.
+    option_and_then_some string_in (after_label (codes "strings") bytes) named e2 (λ a e3 k3.
+    let part = option_map-some (λ (t : List ℕ × List ℕ). record { string = signed.0; text = t.0; rest = t.1 }) (text_in signed.1) found k in
+    let last = and_sign-sound 61 named signed (3, lit< tt, refl) k2 in
+    let name : named.0 ≡ found.string = last.0 ∙ ap (λ (d : Declared). d.string) part.1.1 in
+    let inside : Begins signed.1 (text found.text) found.rest = subst (λ (d : Declared). Begins signed.1 (text d.text) d.rest) part.1.1 (text-sound signed.1 part.0 part.1.0) in
+    (a, (label-sound (codes "strings") bytes a e3, (named.1, (subst (λ (n : List ℕ). Begins a (string n) named.1) name (string-sound a named k3), (signed.1, (last.1, inside)))))))))
 
 at_end-sound : (found : List ℕ × List ℕ) (name : List ℕ) → at_end found ≡ Some name → (found.0 ≡ name) × AllPass is_blank found.1
 at_end-sound found name h = by_rest (unblanked found.1) refl h where
@@ -72,11 +72,11 @@ at_end-sound found name h = by_rest (unblanked found.1) refl h where
 condition-sound : (bytes name : List ℕ) → condition_in bytes ≡ Some name → Condition bytes name
 condition-sound bytes name h =
     option_and_then_some at_end (option_and_then (and_sign 125) (option_and_then string_in (after_label (codes "condition") bytes))) name h (λ signed e k.
-      option_and_then_some (and_sign 125) (option_and_then string_in (after_label (codes "condition") bytes)) signed e (λ named e2 k2.
-        option_and_then_some string_in (after_label (codes "condition") bytes) named e2 (λ a e3 k3.
-          let end = at_end-sound signed name k in
-          let last = and_sign-sound 125 named signed (1, lit< tt, refl) k2 in
-          (a, (label-sound (codes "condition") bytes a e3, (named.1, (subst (λ (n : List ℕ). Begins a (string n) named.1) (last.0 ∙ end.0) (string-sound a named k3), (signed.1, (last.1, end.1)))))))))
+    option_and_then_some (and_sign 125) (option_and_then string_in (after_label (codes "condition") bytes)) signed e (λ named e2 k2.
+    option_and_then_some string_in (after_label (codes "condition") bytes) named e2 (λ a e3 k3.
+    let end = at_end-sound signed name k in
+    let last = and_sign-sound 125 named signed (1, lit< tt, refl) k2 in
+    (a, (label-sound (codes "condition") bytes a e3, (named.1, (subst (λ (n : List ℕ). Begins a (string n) named.1) (last.0 ∙ end.0) (string-sound a named k3), (signed.1, (last.1, end.1)))))))))
 
 reserved-true : (name : List ℕ) → IsReserved name → is_reserved name ≡ true
 reserved-true name h = list_any-from_Contains nat_list_eq_equiv name reserved_words h
@@ -101,9 +101,55 @@ rule-from bytes rule head found condition is h d c sound =
           let same : condition ≡ found.string = (bytes_eq-Decides condition found.string).0 one.0 in
           let named : Begins c.0 (string found.string) c.1.1.0 = subst (λ (n : List ℕ). Begins c.0 (string n) c.1.1.0) same c.1.1.1.0 in
           record {
-            tokens = (h.0, (h.1.0, (h.1.1.0, (h.1.1.1.0, (head.1, (h.1.1.1.1,
-              (d.1.0.0, (d.1.0.1.0, (d.0, (d.1.0.1.1, (d.1.1.0, (d.1.1.1.0, (d.1.1.1.1.0, (d.1.1.1.1.1.0, (found.rest, (d.1.1.1.1.1.1,
-              (c.1.0.0, (c.1.0.1.0, (c.0, (c.1.0.1.1, (c.1.1.0, (named, (c.1.1.1.1.0, (c.1.1.1.1.1.0, c.1.1.1.1.1.1))))))))))))))))))))))));
+            tokens = (
+              h.0,
+              (
+                h.1.0,
+                (
+                  h.1.1.0,
+                  (
+                    h.1.1.1.0,
+                    (
+                      head.1,
+                      (
+                        h.1.1.1.1,
+                        (
+                          d.1.0.0,
+                          (
+                            d.1.0.1.0,
+                            (
+                              d.0,
+                              (
+                                d.1.0.1.1,
+                                (
+                                  d.1.1.0,
+                                  (
+                                    d.1.1.1.0,
+                                    (
+                                      d.1.1.1.1.0,
+                                      (
+                                        d.1.1.1.1.1.0,
+                                        (
+                                          found.rest,
+                                          (
+                                            d.1.1.1.1.1.1,
+                                            (c.1.0.0, (c.1.0.1.0, (c.0, (c.1.0.1.1, (c.1.1.0, (named, (c.1.1.1.1.0, (c.1.1.1.1.1.0, c.1.1.1.1.1.1)))))))),
+                                          ),
+                                        ),
+                                      ),
+                                    ),
+                                  ),
+                                ),
+                              ),
+                            ),
+                          ),
+                        ),
+                      ),
+                    ),
+                  ),
+                ),
+              ),
+            );
             unreserved = λ bad. let t : is_reserved head.0 ≡ true = reserved-true head.0 bad in let f : is_reserved head.0 ≡ false = not_true _ two.0 in cc;
             short_name = leb-true _ _ three.0;
             short_string = leb-true _ _ four.0;
@@ -113,12 +159,12 @@ rule-from bytes rule head found condition is h d c sound =
 pub rule-sound : (bytes : List ℕ) (rule : Rule) → rule_in bytes ≡ Some rule → IsRule bytes rule
 rule-sound bytes rule h =
     option_and_then_some rule_after (head_in bytes) rule h (λ head e k.
-      option_and_then_some (rule_with head.0) (declared_in head.1) rule k (λ found e2 k2.
-        option_and_then_some (checked (record { name = head.0; string = found.string; text = found.text })) (condition_in found.rest) rule k2 (λ condition e3 k3.
-          let r : Rule = record { name = head.0; string = found.string; text = found.text } in
-          let both = if_some (is_sound r condition) r rule k3 in
-          rule-from bytes rule head found condition (sym both.1) (head-sound bytes head e) (declared-sound head.1 found e2) (condition-sound found.rest condition e3)
-          (subst (λ (x : Rule). is_sound x condition ≡ true) both.1 both.0))))
+    option_and_then_some (rule_with head.0) (declared_in head.1) rule k (λ found e2 k2.
+    option_and_then_some (checked (record { name = head.0; string = found.string; text = found.text })) (condition_in found.rest) rule k2 (λ condition e3 k3.
+    let r : Rule = record { name = head.0; string = found.string; text = found.text } in
+    let both = if_some (is_sound r condition) r rule k3 in
+    rule-from bytes rule head found condition (sym both.1) (head-sound bytes head e) (declared-sound head.1 found e2) (condition-sound found.rest condition e3)
+    (subst (λ (x : Rule). is_sound x condition ≡ true) both.1 both.0))))
 
 -- ---- complete
 

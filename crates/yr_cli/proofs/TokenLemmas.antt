@@ -1,5 +1,5 @@
 -- The readers of tokens find what stands there, and nothing else.
-use Rattle.std.proofs.Common.{◌≡◌, ◌≢◌, ℕ, Bool, true, false, ◌||◌, List, [], ◌∷◌, ◌++◌, length, take, drop, cond, Option, Some, None, Contains, codes, refl, sym, ap, subst, ◌∙◌, arith, append_assoc, append-nil, eq-eqb}
+use Rattle.std.proofs.Common.{◌≡◌, ◌≢◌, ℕ, true, false, ◌||◌, List, [], ◌∷◌, ◌++◌, length, take, drop, cond, Option, Some, None, Contains, codes, refl, sym, ap, subst, ◌∙◌, arith, append_assoc, append-nil, eq-eqb}
 use Rattle.std.specs.List.{prefix_len, list_all, AllPass}
 use Rattle.std.specs.Option.{option_map, option_and_then}
 use Rattle.std.specs.Str.{bytes_eq}
@@ -11,7 +11,7 @@ use Rattle.std.proofs.lemmas.Slice.Eq.{bytes_eq-Decides}
 use Rattle.std.proofs.Math.Seq.{take-append_seam, drop-append_seam}
 use Rattle.yr_base.specs.Bytes.{is_blank, is_digit, is_word_start, is_word_byte}
 use Rattle.yr_base.specs.Words.{IsWord}
-use Rattle.yr_cli.specs.Tokens.{Token, word, string, text, sign, is_plain, BeginsWithout, Begins}
+use Rattle.yr_cli.specs.Tokens.{word, string, text, sign, is_plain, BeginsWithout, Begins}
 use Rattle.yr_cli.specs.Readers.{unblanked, begins, parted, after_byte, after_sign, word_here, word_in, after_this, after_word, name_here, string_in, text_here, text_in}
 use Rattle.yr_cli.proofs.Runs.{if_some, and_true, prefix-front, parted-front, prefix-stops, prefix-whole, prefix-all, taken-first}
 
@@ -94,7 +94,7 @@ word-complete bytes name rest h =
     let starts : BeginsWithout is_blank (name ++ rest) = subst (λ (n : List ℕ). BeginsWithout is_blank (n ++ rest)) (sym w.whole) (start-no_blank w.first w.begins) in
     let first : begins is_word_start (name ++ rest) ≡ true = ap (λ (n : List ℕ). begins is_word_start (n ++ rest)) w.whole ∙ w.begins in
     let all : AllPass is_word_byte name =
-        subst (λ (n : List ℕ). AllPass is_word_byte n) (sym w.whole) (All-cons (λ b. is_word_byte b ≡ true) w.first w.rest (start-word w.first w.begins) w.goes_on) in
+    subst (λ (n : List ℕ). AllPass is_word_byte n) (sym w.whole) (All-cons (λ b. is_word_byte b ≡ true) w.first w.rest (start-word w.first w.begins) w.goes_on) in
     ap word_in h.whole
     ∙ ap word_here (unblanked-gap h.gap (name ++ rest) h.blank starts)
     ∙ ap (λ t. cond t (Some (parted is_word_byte (name ++ rest))) None) first
@@ -103,9 +103,9 @@ word-complete bytes name rest h =
 pub this-sound : (name bytes rest : List ℕ) → after_word name bytes ≡ Some rest → Begins bytes (word name) rest
 this-sound name bytes rest h =
     option_and_then_some (after_this name) (word_in bytes) rest h (λ found e k.
-      let both = if_some (bytes_eq found.0 name) found.1 rest k in
-      subst (λ (r : List ℕ). Begins bytes (word name) r) both.1
-      (subst (λ (n : List ℕ). Begins bytes (word n) found.1) ((bytes_eq-Decides found.0 name).0 both.0) (word-sound bytes found e)))
+    let both = if_some (bytes_eq found.0 name) found.1 rest k in
+    subst (λ (r : List ℕ). Begins bytes (word name) r) both.1
+    (subst (λ (n : List ℕ). Begins bytes (word n) found.1) ((bytes_eq-Decides found.0 name).0 both.0) (word-sound bytes found e)))
 
 pub this-complete : (name bytes rest : List ℕ) → Begins bytes (word name) rest → after_word name bytes ≡ Some rest
 this-complete name bytes rest h =
@@ -125,14 +125,14 @@ name-begins (b ∷ name) rest filled all = (and_true (is_word_byte b) (list_all 
 pub string-sound : (bytes : List ℕ) (found : List ℕ × List ℕ) → string_in bytes ≡ Some found → Begins bytes (string found.0) found.1
 string-sound bytes found h =
     option_and_then_some name_here (after_sign 36 bytes) found h (λ rest e k.
-      let both = if_some (begins is_word_byte rest) (parted is_word_byte rest) found k in
-      subst (λ (f : List ℕ × List ℕ). Begins bytes (string f.0) f.1) both.1 (record {
-        gap = gap_of bytes;
-        blank = gap-blank bytes;
-        whole = after_sign-whole 36 bytes rest e ∙ ap (λ l. gap_of bytes ++ (36 ∷ l)) (prefix-whole is_word_byte rest);
-        thin = (name-filled rest both.0, prefix-all is_word_byte rest);
-        longest = prefix-stops is_word_byte rest;
-      }))
+    let both = if_some (begins is_word_byte rest) (parted is_word_byte rest) found k in
+    subst (λ (f : List ℕ × List ℕ). Begins bytes (string f.0) f.1) both.1 (record {
+      gap = gap_of bytes;
+      blank = gap-blank bytes;
+      whole = after_sign-whole 36 bytes rest e ∙ ap (λ l. gap_of bytes ++ (36 ∷ l)) (prefix-whole is_word_byte rest);
+      thin = (name-filled rest both.0, prefix-all is_word_byte rest);
+      longest = prefix-stops is_word_byte rest;
+    }))
 
 pub string-complete : (bytes name rest : List ℕ) → Begins bytes (string name) rest → string_in bytes ≡ Some (name, rest)
 string-complete bytes name rest h =
@@ -152,17 +152,17 @@ quoted-is bytes rest = ap (λ (l : List ℕ). 34 ∷ l) (append_assoc bytes (34 
 pub text-sound : (bytes : List ℕ) (found : List ℕ × List ℕ) → text_in bytes ≡ Some found → Begins bytes (text found.0) found.1
 text-sound bytes found h =
     option_and_then_some text_here (after_sign 34 bytes) found h (λ inside e k.
-      let front = take (prefix_len is_plain inside) inside in
-      let back = drop (prefix_len is_plain inside) inside in
-      let part = option_map-some (λ (rest : List ℕ). (front, rest)) (after_byte 34 back) found k in
-      let closed : inside ≡ front ++ (34 ∷ part.0) = prefix-whole is_plain inside ∙ ap (λ l. front ++ l) (after_byte-whole 34 back part.0 part.1.0) in
-      subst (λ (f : List ℕ × List ℕ). Begins bytes (text f.0) f.1) part.1.1 (record {
-        gap = gap_of bytes;
-        blank = gap-blank bytes;
-        whole = after_sign-whole 34 bytes inside e ∙ ap (λ l. gap_of bytes ++ (34 ∷ l)) closed ∙ ap (λ l. gap_of bytes ++ l) (sym (quoted-is front part.0));
-        thin = prefix-all is_plain inside;
-        longest = tt;
-      }))
+    let front = take (prefix_len is_plain inside) inside in
+    let back = drop (prefix_len is_plain inside) inside in
+    let part = option_map-some (λ (rest : List ℕ). (front, rest)) (after_byte 34 back) found k in
+    let closed : inside ≡ front ++ (34 ∷ part.0) = prefix-whole is_plain inside ∙ ap (λ l. front ++ l) (after_byte-whole 34 back part.0 part.1.0) in
+    subst (λ (f : List ℕ × List ℕ). Begins bytes (text f.0) f.1) part.1.1 (record {
+      gap = gap_of bytes;
+      blank = gap-blank bytes;
+      whole = after_sign-whole 34 bytes inside e ∙ ap (λ l. gap_of bytes ++ (34 ∷ l)) closed ∙ ap (λ l. gap_of bytes ++ l) (sym (quoted-is front part.0));
+      thin = prefix-all is_plain inside;
+      longest = tt;
+    }))
 
 text_here-front : (bytes rest : List ℕ) → AllPass is_plain bytes → text_here (bytes ++ (34 ∷ rest)) ≡ Some (bytes, rest)
 text_here-front bytes rest all =

@@ -1,15 +1,16 @@
 -- Steps of the walk that an outcome is.
-use Rattle.std.proofs.Common.{◌≡◌, ℕ, ◌≤◌, Bool, true, false, List, [], ◌∷◌, ◌++◌, map, cond, nat_le, length, Option, Some, None, codes, refl, sym, ap, ◌∙◌, subst}
+use Rattle.std.proofs.Common.{◌≡◌, ℕ, ◌≤◌, List, [], ◌∷◌, map, cond, nat_le, length, Option, Some, None, refl, sym, ap, ◌∙◌, subst}
 use Rattle.std.proofs.lemmas.Bool.{lt-leb, le-leb}
 use Rattle.yr_base.specs.Store.{Files, IsLonger}
 use Rattle.yr_base.specs.Told.{told_more, told_more-after, told_more-nil}
 use Rattle.yr_base.specs.Trace.{Entry}
-use Rattle.yr_cli.specs.Words.{Scan, command_of}
+use Rattle.yr_cli.specs.Words.{Scan}
 use Rattle.yr_cli.specs.Front.{Rule, IsMeaning}
 use Rattle.yr_cli.specs.Back.{reported_of}
 use Rattle.yr_cli.specs.Report.{report_of}
-use Rattle.yr_cli.specs.Outcome.{Outcome, with_command, with_rules, with_meaning, with_target, refusal, after_read, not_built, too_long, unread, outcome_by}
-use Rattle.yr_cli.specs.Answers.{FitsAnswer, Fits, Settles, Says, outside, IsOutcomes, status_of, text_of, NotesAll, NotesFailure, NotesSome, read_noted, failure_noted}
+use Rattle.yr_cli.specs.Outcome.{Outcome, with_command, with_rules, with_meaning, with_target, refusal, after_read, not_built, too_long}
+use Rattle.yr_base.specs.Notes.{NotesAll, NotesFailure, NotesSome, read_noted, failure_noted}
+use Rattle.yr_cli.specs.Answers.{FitsAnswer, Fits, Settles, Says, outside, IsOutcomes, status_of, text_of}
 use Rattle.yr_cli.specs.Readers.{rules_in}
 use Rattle.yr_cli.specs.declared.answer.Answer.{Answer}
 use Rattle.yr_cli.specs.declared.answer.Answer.TheVariants as answer

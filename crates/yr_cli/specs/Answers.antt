@@ -1,9 +1,10 @@
 -- How an answer fits an outcome.
-use Rattle.std.specs.Prelude.{◌≡◌, ◌⊎◌, ℕ, List, [], ◌∷◌, ◌++◌, map, codes, true, false, Option, Some}
+use Rattle.std.specs.Prelude.{◌≡◌, ◌⊎◌, ℕ, List, [], codes, Option, Some}
 use Rattle.yr_base.specs.Causes.{HasRisen}
 use Rattle.yr_base.specs.Told.{told_more, AddsPrefix}
 use Rattle.yr_base.specs.Trace.{Entry}
 use Rattle.yr_base.specs.Store.{Files}
+use Rattle.yr_base.specs.Notes.{NotesAll, NotesSome, NotesFailure}
 use Rattle.yr_cli.specs.Outcome.{Outcome, unread, not_built, too_long}
 use Rattle.yr_cli.specs.declared.answer.Answer.{Answer}
 use Rattle.yr_cli.specs.declared.answer.Answer.TheVariants as answer
@@ -13,31 +14,6 @@ use Rattle.yr_cli.specs.declared.status.Status.TheVariants as status
 -- the text was said, or a prefix of it where the count rose
 abbrev pub Says : Option (List ℕ) → Option (List ℕ) → List ℕ → ℕ → ℕ → Type 0
 Says old new text before after = (new ≡ told_more old text) ⊎ (HasRisen before after × AddsPrefix old new text)
-
--- a read that did not fail, and one that did
-abbrev pub read_noted : List ℕ → Entry
-read_noted name = record { writes = false; name = name; failed = false }
-
-abbrev pub failure_noted : List ℕ → Entry
-failure_noted name = record { writes = false; name = name; failed = true }
-
--- all these reads were noted, none as failed
-abbrev pub NotesAll : Option (List Entry) → Option (List Entry) → List (List ℕ) → Type 0
-NotesAll old new reads = new ≡ told_more old (map read_noted reads)
-
--- a prefix of these reads was noted, none as failed
-pub record NotesSome (old new : Option (List Entry)) (reads : List (List ℕ)) : Type 0 where
-  pub done : List (List ℕ)
-  pub rest : List (List ℕ)
-  pub whole : reads ≡ done ++ rest
-  pub added : new ≡ told_more old (map read_noted done)
-
--- a prefix of these reads was noted, the last of them, of this name, as failed
-pub record NotesFailure (old new : Option (List Entry)) (reads : List (List ℕ)) (name : List ℕ) : Type 0 where
-  pub done : List (List ℕ)
-  pub rest : List (List ℕ)
-  pub whole : reads ≡ done ++ name ∷ rest
-  pub added : new ≡ told_more old (map read_noted done ++ failure_noted name ∷ [])
 
 -- the status and the text that stand for an answer
 abbrev pub status_of : Answer → Status

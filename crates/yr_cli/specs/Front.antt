@@ -1,5 +1,5 @@
 -- What a rule file means. Built so far: one rule with one string, whose condition is that string's name.
-use Rattle.std.specs.Prelude.{◌≡◌, ◌≢◌, ℕ, ◌≤◌, List, [], ◌∷◌, length, codes, Option, None, Some}
+use Rattle.std.specs.Prelude.{◌≢◌, ℕ, ◌≤◌, List, [], ◌∷◌, length, codes, Option, None, Some}
 use Rattle.yr_base.specs.Words.{IsReserved, name_limit}
 use Rattle.yr_cli.specs.Tokens.{Token, word, string, text, sign, AreTokens}
 

@@ -1,6 +1,6 @@
 -- What a run answers, by the words and the files alone.
 use Rattle.std.specs.Prelude.{◌≡◌, ℕ, ◌≤◌, List, [], ◌∷◌, ◌++◌, nat_le, length, codes, Option, None, Some, if◌then◌else◌}
-use Rattle.yr_base.specs.Store.{Files}
+use Rattle.yr_base.specs.Store.{Files, IfTold}
 use Rattle.yr_cli.specs.Words.{Scan, command_of}
 use Rattle.yr_cli.specs.Front.{Rule, ReadsThin, IsMeaning}
 use Rattle.yr_cli.specs.Back.{reported_of}
@@ -64,6 +64,10 @@ pub record IsOutcome (words : List (List ℕ)) (files : Files) (o : Outcome) : T
   pub meaning : List ℕ → Option (List Rule)
   pub meant : IsMeaning meaning
   pub walk : o ≡ outcome_by meaning words files
+
+-- where files are told, this holds of them and of the outcome
+abbrev pub ForOutcome : Option Files → List (List ℕ) → (Files → Outcome → Type 0) → Type 0
+ForOutcome told words P = IfTold told (λ files. (o : Outcome) → IsOutcome words files o → P files o)
 
 -- the words and the files let a scan come to its end
 pub record CanScan (words : List (List ℕ)) (files : Files) : Type 0 where

@@ -1,5 +1,5 @@
 -- Thin tokens of a rule file: words, names of strings, texts without `\`, and the signs `{`, `}`, `:` and `=`, with blanks between them.
-use Rattle.std.specs.Prelude.{◌≡◌, ◌≢◌, ℕ, Bool, true, false, not, ◌||◌, ◌==◌, List, [], ◌∷◌, ◌++◌, codes, Contains}
+use Rattle.std.specs.Prelude.{◌≡◌, ◌≢◌, ℕ, Bool, false, not, ◌||◌, ◌==◌, List, [], ◌∷◌, ◌++◌, codes, Contains}
 use Rattle.std.specs.List.{AllPass}
 use Rattle.yr_base.specs.Bytes.{is_blank, is_word_byte}
 use Rattle.yr_base.specs.Words.{IsWord}

@@ -2,10 +2,10 @@
 
 ghost use Rattle.std.specs.Prelude.{◌≡◌, ◌⊎◌, ◌↔◌, ℕ, ◌≤◌, List, Option, Some, None, map, string_bytes};
 ghost use Rattle.yr_base.specs.Causes.{HasRisen};
-ghost use Rattle.yr_base.specs.Store.{Files, IfTold};
+ghost use Rattle.yr_base.specs.Store.{Files};
 ghost use Rattle.yr_cli.specs.Words.{command_of};
 ghost use Rattle.yr_cli.specs.Front.{Rule, IsMeaning};
-ghost use Rattle.yr_cli.specs.Outcome.{Outcome, IsOutcome, CanScan, outcome_by};
+ghost use Rattle.yr_cli.specs.Outcome.{ForOutcome, CanScan, outcome_by};
 ghost use Rattle.yr_cli.specs.Answers.{Fits, Settles, IsUnread, IsUnwritten, IsOutOfMemory, IsSettled, outside};
 ghost use Rattle.yr_cli.specs.Codes.{CanCome};
 
@@ -46,7 +46,7 @@ fn run_command<F: Store, O: Sink, E: Sink>(
     }
 }
 
-/// Runs the command that the words spell, over a store and two sinks.
+/// Runs the command that the words spell, over a store and two sinks: the words, the rule file, the target, the report.
 pub fn yara_main<F: Store, O: Sink, E: Sink>(
     alloc: Global,
     words: &[String],
@@ -55,42 +55,55 @@ pub fn yara_main<F: Store, O: Sink, E: Sink>(
     err: &mut E,
 ) -> Status
     // A whole answer, or the first refusal.
-    ensures answer { IfTold (F.files store.old) (λ files. (o : Outcome) → IsOutcome (map string_bytes words.now) files o → IsSettled result →
-        Settles o result
-        (outside (F.files store.old) (F.trace store.old) (O.written out.old) (E.written err.old) (E.faults err.old))
-        (outside (F.files store.new) (F.trace store.new) (O.written out.new) (E.written err.new) (E.faults err.new))) }
+    ensures answer { ForOutcome (F.files store.old) (map string_bytes words.now) (λ files o.
+        IsSettled result → Settles o result
+        (outside (F.files store.old) (F.trace store.old) (O.written out.old) (E.written err.old)
+        (E.faults err.old))
+        (outside (F.files store.new) (F.trace store.new) (O.written out.new) (E.written err.new)
+        (E.faults err.new))) }
 
     // A file that could not be read.
-    ensures read_fault { IfTold (F.files store.old) (λ files. (o : Outcome) → IsOutcome (map string_bytes words.now) files o → result ≡ Status.ReadFault →
-        (name : List ℕ) × IsUnread o name
-        (outside (F.files store.old) (F.trace store.old) (O.written out.old) (E.written err.old) (E.faults err.old))
-        (outside (F.files store.new) (F.trace store.new) (O.written out.new) (E.written err.new) (E.faults err.new))) }
+    ensures read_fault { ForOutcome (F.files store.old) (map string_bytes words.now) (λ files o.
+        result ≡ Status.ReadFault → (name : List ℕ) × IsUnread o name
+        (outside (F.files store.old) (F.trace store.old) (O.written out.old) (E.written err.old)
+        (E.faults err.old))
+        (outside (F.files store.new) (F.trace store.new) (O.written out.new) (E.written err.new)
+        (E.faults err.new))) }
 
     // A report that could not be written.
-    ensures write_fault { IfTold (F.files store.old) (λ files. (o : Outcome) → IsOutcome (map string_bytes words.now) files o → result ≡ Status.WriteFault →
-        IsUnwritten o
-        (outside (F.files store.old) (F.trace store.old) (O.written out.old) (E.written err.old) (E.faults err.old))
-        (outside (F.files store.new) (F.trace store.new) (O.written out.new) (E.written err.new) (E.faults err.new))) }
+    ensures write_fault { ForOutcome (F.files store.old) (map string_bytes words.now) (λ files o.
+        result ≡ Status.WriteFault → IsUnwritten o
+        (outside (F.files store.old) (F.trace store.old) (O.written out.old) (E.written err.old)
+        (E.faults err.old))
+        (outside (F.files store.new) (F.trace store.new) (O.written out.new) (E.written err.new)
+        (E.faults err.new))) }
 
     // Want of memory.
-    ensures no_memory { IfTold (F.files store.old) (λ files. (o : Outcome) → IsOutcome (map string_bytes words.now) files o → result ≡ Status.NoMemory →
-        IsOutOfMemory o
-        (outside (F.files store.old) (F.trace store.old) (O.written out.old) (E.written err.old) (E.faults err.old))
-        (outside (F.files store.new) (F.trace store.new) (O.written out.new) (E.written err.new) (E.faults err.new))) }
+    ensures no_memory { ForOutcome (F.files store.old) (map string_bytes words.now) (λ files o.
+        result ≡ Status.NoMemory → IsOutOfMemory o
+        (outside (F.files store.old) (F.trace store.old) (O.written out.old) (E.written err.old)
+        (E.faults err.old))
+        (outside (F.files store.new) (F.trace store.new) (O.written out.new) (E.written err.new)
+        (E.faults err.new))) }
 
     // A scan that can come to its end does, but for faults and want of memory.
-    ensures complete { IfTold (F.files store.old) (λ files. (o : Outcome) → IsOutcome (map string_bytes words.now) files o →
+    ensures complete { ForOutcome (F.files store.old) (map string_bytes words.now) (λ files o.
         CanScan (map string_bytes words.now) files →
-        (HasRisen (F.faults store.old) (F.faults store.new) → ⊥) → (HasRisen (O.faults out.old) (O.faults out.new) → ⊥) →
+        ¬ HasRisen (F.faults store.old) (F.faults store.new) →
+        ¬ HasRisen (O.faults out.old) (O.faults out.new) →
         ((result ≡ Status.Done) × Settles o Status.Done
-        (outside (F.files store.old) (F.trace store.old) (O.written out.old) (E.written err.old) (E.faults err.old))
-        (outside (F.files store.new) (F.trace store.new) (O.written out.new) (E.written err.new) (E.faults err.new)))
+        (outside (F.files store.old) (F.trace store.old) (O.written out.old) (E.written err.old)
+        (E.faults err.old))
+        (outside (F.files store.new) (F.trace store.new) (O.written out.new) (E.written err.new)
+        (E.faults err.new)))
         ⊎ (result ≡ Status.NoMemory)) }
 
-    // What holds of stores and sinks that tell nothing, too.
+    // These hold of stores and sinks that tell nothing, too.
     ensures causes_usage { (result ≡ Status.Usage) ↔ (command_of (map string_bytes words.now) ≡ None) }
-    ensures causes_read_fault { result ≡ Status.ReadFault → HasRisen (F.faults store.old) (F.faults store.new) }
-    ensures causes_write_fault { result ≡ Status.WriteFault → HasRisen (O.faults out.old) (O.faults out.new) }
+    ensures causes_read_fault { result ≡ Status.ReadFault →
+        HasRisen (F.faults store.old) (F.faults store.new) }
+    ensures causes_write_fault { result ≡ Status.WriteFault →
+        HasRisen (O.faults out.old) (O.faults out.new) }
     ensures causes_others { CanCome result }
 {
     run_command(alloc, words, store, out, err)

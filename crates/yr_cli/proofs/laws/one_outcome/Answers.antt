@@ -1,4 +1,4 @@
-use Rattle.std.proofs.Common.{◌≡◌, ℕ, List, refl, sym, ap, ◌∙◌}
+use Rattle.std.proofs.Common.{refl, sym, ◌∙◌}
 use Rattle.yr_cli.specs.Outcome.{outcome_by}
 use Rattle.yr_cli.specs.Readers.{rules_in}
 use Rattle.yr_cli.proofs.RuleLemmas.{rules-mean}

@@ -11,4 +11,4 @@ returns-in-Some-clause-fits g c = λ files e meaning meant.
     (outside (g.F.Store.files c.scan_file-answer.new.store) (g.F.Store.trace c.scan_file-answer.new.store) (g.O.Sink.written c.scan_file-answer.new.out) (g.E.Sink.written c.tell.new.err) (g.E.Sink.faults c.tell.new.err)))
     c.in-Some.ensures
     (Fits-told _ _ _ _ _ _ _ _ _ _ _ _ _ (c.scan_file-answer.ensures.fits files e meaning meant) c.tell.ensures.status c.tell.ensures.said
-      c.scan_file-answer.ensures.files (e ∙ ap Some (sym (with_command-files meaning files (Some (record { rules = c.in-Some.places.rules.now; target = c.in-Some.places.target.now }))))))
+    c.scan_file-answer.ensures.files (e ∙ ap Some (sym (with_command-files meaning files (Some (record { rules = c.in-Some.places.rules.now; target = c.in-Some.places.target.now }))))))
