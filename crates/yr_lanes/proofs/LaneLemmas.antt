@@ -116,7 +116,7 @@ HasLanes-lower v long =
           let x = get_or v k 0 in
           let first : get_or (zip2 at_most (replicate 16 65) v) k 0 ≡ at_most 65 x = above.each k l ∙ ap (λ t. at_most t x) (get_or-replicate 16 k 65 0 l) in
           let test : get_or (map (top 7) tests) k false ≡ top 7 (bit_and (at_most 65 x) (at_most x 90)) =
-              get_or-map (top 7) tests k 0 ∙ ap (top 7) (both.each k l ∙ (λ i. bit_and (first i) (below.each k l i))) in
+          get_or-map (top 7) tests k 0 ∙ ap (top 7) (both.each k l ∙ (λ i. bit_and (first i) (below.each k l i))) in
           let added = moved.each k l in
           get_or-sel_l (map (top 7) tests) (zip2 (λ a b. (a + b) % 256) v (replicate 16 32)) v k 0 (omega arith) (omega (arith, moved.long)) (omega arith)
           ∙ (λ i. cond (test i) (added i) x) ∙ lower_lane x _ _ refl refl;

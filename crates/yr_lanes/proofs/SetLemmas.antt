@@ -93,12 +93,12 @@ crossing-other u w l ne =
     ⊎_elim
     (λ lw. eqb-true _ 0 ((crossing_tells u w l lw).1 (ne_eqb u w ne)))
     (λ past.
-        let front : get_or FRONT_BITS w 0 ≡ 0 = get_or_past FRONT_BITS w 0 past in
-        let back : get_or BACK_BITS w 0 ≡ 0 = get_or_past BACK_BITS w 0 past in
-        let p = get_or FRONT_BITS u 0 in
-        let q = get_or BACK_BITS u 0 in
-        zero_or (bit_and p (get_or FRONT_BITS w 0)) (bit_and q (get_or BACK_BITS w 0))
-        (omega (arith, and_le_r p (get_or FRONT_BITS w 0))) (omega (arith, and_le_r q (get_or BACK_BITS w 0))))
+    let front : get_or FRONT_BITS w 0 ≡ 0 = get_or_past FRONT_BITS w 0 past in
+    let back : get_or BACK_BITS w 0 ≡ 0 = get_or_past BACK_BITS w 0 past in
+    let p = get_or FRONT_BITS u 0 in
+    let q = get_or BACK_BITS u 0 in
+    zero_or (bit_and p (get_or FRONT_BITS w 0)) (bit_and q (get_or BACK_BITS w 0))
+    (omega (arith, and_le_r p (get_or FRONT_BITS w 0))) (omega (arith, and_le_r q (get_or BACK_BITS w 0))))
     (cases_lt w 16)
 
 is_common : (n : ℕ) (t : Bool) → eqb n 0 ≡ t → IsTrue (not t) ↔ (n ≢ 0)
@@ -120,7 +120,7 @@ row-gained f g u w l =
           (λ ne. inl (before.1 (λ none. now.0 h (gained.1 (none, crossing-other u w l ne)))))
           (cases_eq u w),
       ⊎_elim (λ h. now.1 (λ none. before.0 h (gained.0 none).0))
-      (λ e. now.1 (λ none. crossing-own u l (ap (crossing u) e ∙ (gained.0 none).1))),
+          (λ e. now.1 (λ none. crossing-own u l (ap (crossing u) e ∙ (gained.0 none).1))),
     )
 
 -- a list of rows, at its row r
@@ -142,24 +142,24 @@ in_rows-gained front back m b long_front long_back small =
     let goal = λ (f g : ℕ). IsTrue (not (eqb (common f g x y) 0)) ↔ (IsTrue (in_rows front back b) ⊎ (m ≡ b)) in
     ⊎_elim
     (λ (e : b % 16 ≡ r).
-        let f : get_or (gained_row front r p) (b % 16) 0 ≡ bit_or (get_or front (b % 16) 0) p =
-            ap (λ j. get_or (gained_row front r p) j 0) e ∙ get_or-set_same front r _ 0 (omega arith) ∙ ap (λ j. bit_or (get_or front j 0) p) (sym e) in
-        let g : get_or (gained_row back r q) (b % 16) 0 ≡ bit_or (get_or back (b % 16) 0) q =
-            ap (λ j. get_or (gained_row back r q) j 0) e ∙ get_or-set_same back r _ 0 (omega arith) ∙ ap (λ j. bit_or (get_or back j 0) q) (sym e) in
-        let row = row-gained (get_or front (b % 16) 0) (get_or back (b % 16) 0) u w (omega arith) in
-        let told : goal (bit_or (get_or front (b % 16) 0) p) (bit_or (get_or back (b % 16) 0) q) = (
-          λ h. ⊎_elim (λ i. inl i) (λ i. inr (omega arith)) (row.0 h),
-          ⊎_elim (λ h. row.1 (inl h)) (λ h. row.1 (inr (ap (λ n. n / 16) h))),
-        ) in
-        subst (λ j. goal j (get_or (gained_row back r q) (b % 16) 0)) (sym f) (subst (goal (bit_or (get_or front (b % 16) 0) p)) (sym g) told))
+    let f : get_or (gained_row front r p) (b % 16) 0 ≡ bit_or (get_or front (b % 16) 0) p =
+    ap (λ j. get_or (gained_row front r p) j 0) e ∙ get_or-set_same front r _ 0 (omega arith) ∙ ap (λ j. bit_or (get_or front j 0) p) (sym e) in
+    let g : get_or (gained_row back r q) (b % 16) 0 ≡ bit_or (get_or back (b % 16) 0) q =
+    ap (λ j. get_or (gained_row back r q) j 0) e ∙ get_or-set_same back r _ 0 (omega arith) ∙ ap (λ j. bit_or (get_or back j 0) q) (sym e) in
+    let row = row-gained (get_or front (b % 16) 0) (get_or back (b % 16) 0) u w (omega arith) in
+    let told : goal (bit_or (get_or front (b % 16) 0) p) (bit_or (get_or back (b % 16) 0) q) = (
+      λ h. ⊎_elim (λ i. inl i) (λ i. inr (omega arith)) (row.0 h),
+      ⊎_elim (λ h. row.1 (inl h)) (λ h. row.1 (inr (ap (λ n. n / 16) h))),
+    ) in
+    subst (λ j. goal j (get_or (gained_row back r q) (b % 16) 0)) (sym f) (subst (goal (bit_or (get_or front (b % 16) 0) p)) (sym g) told))
     (λ (ne : b % 16 ≢ r).
-        let f : get_or (gained_row front r p) (b % 16) 0 ≡ get_or front (b % 16) 0 = get_or-set_other front r (b % 16) _ 0 ne in
-        let g : get_or (gained_row back r q) (b % 16) 0 ≡ get_or back (b % 16) 0 = get_or-set_other back r (b % 16) _ 0 ne in
-        let told : goal (get_or front (b % 16) 0) (get_or back (b % 16) 0) = (
-          λ h. inl h,
-          ⊎_elim (λ h. h) (λ h. absurd (ne (ap (λ n. n % 16) (sym h)))),
-        ) in
-        subst (λ j. goal j (get_or (gained_row back r q) (b % 16) 0)) (sym f) (subst (goal (get_or front (b % 16) 0)) (sym g) told))
+    let f : get_or (gained_row front r p) (b % 16) 0 ≡ get_or front (b % 16) 0 = get_or-set_other front r (b % 16) _ 0 ne in
+    let g : get_or (gained_row back r q) (b % 16) 0 ≡ get_or back (b % 16) 0 = get_or-set_other back r (b % 16) _ 0 ne in
+    let told : goal (get_or front (b % 16) 0) (get_or back (b % 16) 0) = (
+      λ h. inl h,
+      ⊎_elim (λ h. h) (λ h. absurd (ne (ap (λ n. n % 16) (sym h)))),
+    ) in
+    subst (λ j. goal j (get_or (gained_row back r q) (b % 16) 0)) (sym f) (subst (goal (get_or front (b % 16) 0)) (sym g) told))
     (cases_eq (b % 16) r)
 
 -- one more element in view
@@ -169,8 +169,8 @@ Contains-take_more xs i b l =
     let x = get_or xs i 0 in (
       λ h. Contains-push_cases (take i xs) x b (subst (λ ys. Contains ys b) more h),
       ⊎_elim
-      (λ h. subst (λ ys. Contains ys b) (sym more) (Contains-append_left (take i xs) (x ∷ []) b h))
-      (λ e. subst (λ ys. Contains ys b) (sym more) (subst (Contains (take i xs ++ x ∷ [])) e (Contains-push (take i xs) x))),
+          (λ h. subst (λ ys. Contains ys b) (sym more) (Contains-append_left (take i xs) (x ∷ []) b h))
+          (λ e. subst (λ ys. Contains ys b) (sym more) (subst (Contains (take i xs ++ x ∷ [])) e (Contains-push (take i xs) x))),
     )
 
 or_left : (a b : Bool) → IsTrue a → IsTrue (a || b)
