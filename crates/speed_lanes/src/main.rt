@@ -9,10 +9,10 @@ use std::env;
 use timing::{time_fold, time_skip, time_xor};
 use yr_lanes::{SkipSet, same_fold, same_xor};
 
-/// How many bytes are skipped, none of which is in a set.
+/// How many bytes are skipped, none of which is in a set: more than a cache holds.
 const FILE: usize = 100_000_000;
 
-/// How many bytes are compared, all of which are the same.
+/// How many bytes are compared or skipped in a cache.
 const RANGE: usize = 1_000_000;
 
 fn main(rt: HostRuntime) -> anyhow::Result<()> {
@@ -25,8 +25,10 @@ fn main(rt: HostRuntime) -> anyhow::Result<()> {
         return Ok(());
     }
     let file = filled(alloc, 200, FILE)?;
+    let short = filled(alloc, 200, RANGE)?;
     for size in [1, 3, 16, 128] {
         time_skip(rt, &members[..size], &file)?;
+        time_skip(rt, &members[..size], &short)?;
     }
     let range = filled(alloc, b'k', RANGE)?;
     let keyed = filled(alloc, b'k' ^ 7, RANGE)?;

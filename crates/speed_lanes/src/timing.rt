@@ -5,6 +5,7 @@ use yr_lanes::{SkipSet, same_fold, same_xor};
 
 /// How many passes of a fast loop are timed, and of a plain one.
 const FAST: usize = 20;
+
 const PLAIN: usize = 2;
 
 /// How many passes over ranges.
@@ -23,8 +24,8 @@ pub(crate) fn time_skip(rt: HostRuntime, set: &[u8], file: &[u8]) -> anyhow::Res
         all ^= plain::skip_to(set, file, from);
         slow = slow.min(seconds(rt)? - start);
     }
-    let size = set.len();
-    println!(rt; "skip_to, {size} in the set ({all})")?;
+    let (size, bytes) = (set.len(), file.len());
+    println!(rt; "skip_to, {size} in the set, {bytes} bytes ({all})")?;
     tell(rt, file, fast, slow)
 }
 
@@ -69,6 +70,8 @@ fn seconds(rt: HostRuntime) -> anyhow::Result<f64> {
 fn tell(rt: HostRuntime, bytes: &[u8], fast: f64, slow: f64) -> anyhow::Result<()> {
     let size = std::num::nearest_usize_to_f64(bytes.len());
     let (lanes, plain, times) = (size / fast / 1e9, size / slow / 1e9, slow / fast);
-    println!(rt; "  {lanes:.2} GB/s by lanes, {plain:.2} GB/s by the plain loop: {times:.1} times")?;
+    println!(rt;
+        "  {lanes:.2} GB/s by lanes, {plain:.2} GB/s by the plain loop: {times:.1} times"
+    )?;
     Ok(())
 }

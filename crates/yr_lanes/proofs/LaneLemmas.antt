@@ -1,8 +1,8 @@
 -- What the operations on vectors of 16 bytes hold at each lane.
-use Rattle.std.proofs.Common.{◌≡◌, ◌≢◌, ℕ, ◌+◌, ◌*◌, ◌/◌, ◌%◌, ◌^◌, ◌<◌, ◌≤◌, List, Bool, true, false, not, cond, eqb, leb, ◌&&◌, length, get_or, map, replicate, refl, sym, ap, subst, ◌∙◌, arith, w8, w64, Fits, bit_and, ⊎_elim}
-use Rattle.std.specs.Simd.Lanes.{zip2, sel_l, mask_l, top, Each1}
+use Rattle.std.proofs.Common.{◌≡◌, ◌≢◌, ℕ, ◌+◌, ◌%◌, ◌^◌, ◌<◌, ◌≤◌, List, Bool, true, false, not, cond, eqb, leb, ◌&&◌, length, get_or, map, replicate, refl, sym, ap, ◌∙◌, arith, w8, bit_and}
+use Rattle.std.specs.Simd.Lanes.{zip2, sel_l, mask_l, top}
 use Rattle.std.specs.List.{prefix_len}
-use Rattle.std.proofs.lemmas.Simd.{length-zip2, get_or-zip2, get_or-replicate, length-sel_l, get_or-sel_l, tops_compared, length-swz_l, get_or-swz_l_below, swz_l, SwzOk, SwzOk-from_below, Each1-from_get_or, bitmask_splat, leading_from_mask_l, trailing_mask_l}
+use Rattle.std.proofs.lemmas.Simd.{length-zip2, get_or-zip2, get_or-replicate, length-sel_l, get_or-sel_l, length-swz_l, get_or-swz_l_below, swz_l, SwzOk, SwzOk-from_below, Each1-from_get_or, bitmask_splat, leading_from_mask_l, trailing_mask_l}
 use Rattle.std.proofs.lemmas.List.Sums.{prefix_len_passes, prefix_len-le-length}
 use Rattle.std.proofs.lemmas.Bool.{eqb-true, leb-true, false≢true}
 use Rattle.std.proofs.lemmas.List.{length-map}

@@ -34,11 +34,26 @@ pub(crate) fn first_stop<P: Probe>(probe: &P, from: usize) -> usize
     ensures { IsFirstStop (P.passes probe.now) from (P.places probe.now) result }
 {
     let places = probe.places();
-    let mut at = pass_lanes(probe, pass_wide(probe, from));
+    let mut at = pass_blocks(probe, from);
     while at < places && probe.passes(at) {
         at += 1;
     }
     at
+}
+
+/// Goes past blocks. A stop is often near, so the first block is looked at alone.
+#[inline(always)]
+fn pass_blocks<P: Probe>(probe: &P, from: usize) -> usize
+    requires { from ≤ P.places probe.now }
+    ensures low { from ≤ result }
+    ensures high { result ≤ P.places probe.now }
+    ensures passed { Passes (P.passes probe.now) from result }
+{
+    let near = pass_block(probe, from);
+    if near - from < LANES {
+        return near;
+    }
+    pass_lanes(probe, pass_wide(probe, near))
 }
 
 /// Goes past blocks of 64 places that are all passed.
@@ -65,16 +80,28 @@ fn pass_lanes<P: Probe>(probe: &P, from: usize) -> usize
     ensures high { result ≤ P.places probe.now }
     ensures passed { Passes (P.passes probe.now) from result }
 {
-    let places = probe.places();
     let mut at = from;
-    while places - at >= LANES {
-        let clear = clear_lanes(probe.lanes(at));
-        if clear < LANES {
-            return at + clear;
+    loop {
+        let next = pass_block(probe, at);
+        if next - at < LANES {
+            return next;
         }
-        at += LANES;
+        at = next;
     }
-    at
+}
+
+/// Goes past a block of 16 places, or up to the place that stops it. Where fewer are left it stays.
+#[inline(always)]
+fn pass_block<P: Probe>(probe: &P, from: usize) -> usize
+    requires { from ≤ P.places probe.now }
+    ensures low { from ≤ result }
+    ensures high { result ≤ P.places probe.now }
+    ensures passed { Passes (P.passes probe.now) from result }
+{
+    if probe.places() - from < LANES {
+        return from;
+    }
+    from + clear_lanes(probe.lanes(from))
 }
 
 /// Whether all of 64 places are passed.

@@ -1,4 +1,4 @@
-use Rattle.std.proofs.Common.{ℕ, eqb}
+use Rattle.std.proofs.Common.{eqb}
 use Rattle.yr_base.specs.Bytes.{lowered, SameLetter}
 use Rattle.yr_lanes.proofs.PairLemmas.{AllZip-agrees, eqb_tells}
 use Rattle.yr_lanes.proofs.pairing.same_fold.Goals as goal

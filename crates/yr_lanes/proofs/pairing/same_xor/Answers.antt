@@ -1,4 +1,4 @@
-use Rattle.std.proofs.Common.{ℕ, ◌≡◌, eqb, bit_xor}
+use Rattle.std.proofs.Common.{◌≡◌, eqb, bit_xor}
 use Rattle.yr_lanes.proofs.PairLemmas.{AllZip-agrees, eqb_tells}
 use Rattle.yr_lanes.proofs.pairing.same_xor.Goals as goal
 
