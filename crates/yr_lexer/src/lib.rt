@@ -11,6 +11,8 @@ mod reserved;
 mod scan;
 mod sign;
 mod source;
+#[cfg(test)]
+mod tests;
 mod text;
 mod token;
 mod tokens;
