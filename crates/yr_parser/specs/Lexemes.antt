@@ -2,11 +2,9 @@
 use Rattle.std.specs.Prelude.{ℕ, List, Option, Some, None}
 use Rattle.yr_parser.specs.declared.lexeme.Lexeme.{Lexeme}
 use Rattle.yr_parser.specs.declared.lexeme.Lexeme.TheVariants as lexeme
+use Rattle.yr_parser.specs.declared.spelling.Row.{Row}
+use Rattle.yr_parser.specs.Spelling.{unescaped}
 use Rattle.yr_parser.specs.Terminals.{Terminal, Word, Number, Text, Regex, Hex, StringName, StringWild, CountName, PlaceName, LengthName, Read, Flag, Operator, Sign}
-
--- TODO the lexer's
-unfoldable pub unescaped : List ℕ → List ℕ
-unescaped t = t
 
 abbrev pub terminal_of : Lexeme → Terminal
 terminal_of (lexeme.Word w) = Word w.now
@@ -27,3 +25,6 @@ terminal_of (lexeme.Sign s) = Sign s
 abbrev pub next_of : Option Lexeme → Option Terminal
 next_of None = None
 next_of (Some l) = Some (terminal_of l)
+
+abbrev pub row_of : Row → List ℕ × Terminal
+row_of r = (r.text.now, terminal_of r.lexeme)

@@ -1,6 +1,9 @@
+pub mod Answers
 pub mod Conditions
 pub mod Declarations
 pub mod Depth
+pub mod Examples
+pub mod Good
 pub mod Input
 pub mod Levels
 pub mod Lexemes
@@ -10,4 +13,5 @@ pub mod Reading
 pub mod Refusals
 pub mod Ruling
 pub mod Shallow
+pub mod Spelling
 pub mod Terminals

@@ -4,6 +4,7 @@ use Rattle.yr_syntax.specs.declared.operator.Infix.TheVariants as op
 use Rattle.yr_syntax.specs.Condition.{Condition}
 use Rattle.yr_syntax.specs.Declaration.{ModifierTree, BodyTree, StringTree, ValueTree, MetaTree, RuleTree, Declaration}
 use Rattle.yr_syntax.specs.Declaration as tree
+use Rattle.yr_parser.specs.declared.sign.Sign.{Sign as SignType}
 use Rattle.yr_parser.specs.declared.sign.Sign.TheVariants as sign
 use Rattle.yr_parser.specs.declared.level.Entry.TheVariants as entries
 use Rattle.yr_parser.specs.Terminals.{Terminal, Terminals, Word, Number, Text, Regex, Hex, StringName, Flag, Operator, Sign}
@@ -105,15 +106,24 @@ alphabet_from = do
   given ← eat sign.Open
   if given then alphabet_text else pure None
 
+-- a modifier of one word
+abbrev pub plain_modifier : SignType → Option ModifierTree
+plain_modifier sign.NoCase = Some tree.NoCase
+plain_modifier sign.Wide = Some tree.Wide
+plain_modifier sign.Ascii = Some tree.Ascii
+plain_modifier sign.FullWord = Some tree.FullWord
+plain_modifier sign.Private = Some tree.Hidden
+plain_modifier _ = None
+
+abbrev pub plain_by : Option ModifierTree → Parser (Option ModifierTree)
+plain_by None k = Some (None, k)
+plain_by (Some m) k = Some (Some m, tail k)
+
 abbrev pub modifier_by : Option Terminal → Parser (Option ModifierTree)
-modifier_by (Some (Sign sign.NoCase)) k = Some (Some tree.NoCase, tail k)
-modifier_by (Some (Sign sign.Wide)) k = Some (Some tree.Wide, tail k)
-modifier_by (Some (Sign sign.Ascii)) k = Some (Some tree.Ascii, tail k)
-modifier_by (Some (Sign sign.FullWord)) k = Some (Some tree.FullWord, tail k)
-modifier_by (Some (Sign sign.Private)) k = Some (Some tree.Hidden, tail k)
 modifier_by (Some (Sign sign.Xor)) k = and_then (xor_from (tail k)) (λ m. pure (Some m))
 modifier_by (Some (Sign sign.Base64)) k = and_then (alphabet_from (tail k)) (λ a. pure (Some (tree.Base64 a)))
 modifier_by (Some (Sign sign.Base64Wide)) k = and_then (alphabet_from (tail k)) (λ a. pure (Some (tree.Base64Wide a)))
+modifier_by (Some (Sign s)) k = plain_by (plain_modifier s) k
 modifier_by _ k = Some (None, k)
 
 unfoldable pub next_modifier : Parser (Option ModifierTree)

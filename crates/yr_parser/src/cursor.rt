@@ -1,10 +1,12 @@
 //! A cursor over tokens, which contracts see as the terminals that are left.
 
-ghost use Rattle.std.specs.Prelude.{◌≡◌, ℕ, List, Some, length, IfOk, option_map};
+ghost use Rattle.std.specs.Prelude.{◌≡◌, ℕ, ◌<◌, ◌≤◌, ◌≤ℤ◌, pos, drop, List, Some, length, IfOk, option_map};
 ghost use Rattle.yr_parser.specs.Input as spec;
 ghost use Rattle.yr_parser.specs.Input.{Gives};
 ghost use Rattle.yr_parser.specs.Lexemes.{next_of};
 ghost use Rattle.yr_parser.specs.Reading as reading;
+ghost use Rattle.yr_parser.specs.Ruling as ruling;
+ghost use Rattle.yr_parser.specs.Spelling as spelling;
 ghost use Rattle.yr_parser.specs.Terminals as terminal;
 ghost use Rattle.yr_syntax.specs.Condition as tree;
 ghost use Rattle.yr_syntax.specs.Declaration.{bytes_of};
@@ -12,62 +14,149 @@ ghost use Rattle.yr_syntax.specs.Declaration.{bytes_of};
 use crate::fault::Fault;
 use crate::level::{Level, level_of, same_level};
 use crate::lexeme::Lexeme;
+use crate::place::token_at;
 use crate::sign::{Sign, same_sign};
+use crate::spelling::{inside, spelled};
 use std::alloc::Global;
 use std::marker::Model;
 use yr_base::NoMemory;
+use yr_lexer::{Tokens, unescape};
 use yr_syntax::{Infix, PrefixOp};
 
 #[derive(Drop)]
 pub struct Cursor<'a> {
-    rest: &'a [Lexeme<'a>],
+    tokens: &'a Tokens,
+    at: usize,
+    /// The token at the place, which every reader looks at many times.
+    next: Option<Lexeme<'a>>,
 }
 
 impl<'a> Model for Cursor<'a> {
-    ghost use Rattle.std.specs.Prelude.{map};
-    ghost use Rattle.yr_parser.specs.Lexemes.{terminal_of};
+    ghost use Rattle.std.specs.Prelude.{◌≡◌, ◌≤◌, drop, length};
+    ghost use Rattle.yr_parser.specs.Input.{first};
+    ghost use Rattle.yr_parser.specs.Lexemes.{next_of};
+    ghost use Rattle.yr_parser.specs.Spelling.{terminals_of};
     ghost use Rattle.yr_parser.specs.Terminals.{Terminals};
 
     ghost Value = { Terminals };
 
-    ghost view = { λ c. map terminal_of c.rest.now };
+    ghost view = { λ c. drop c.at (terminals_of c.tokens.now) };
+
+    ghost invariant = { λ c. (c.at ≤ length c.tokens.now.tokens) × (next_of c.next ≡ first (drop c.at (terminals_of c.tokens.now))) };
+}
+
+/// The token of a number, if there is one.
+#[tactic(auto, using(crate::proofs::TokenLemmas::token_rules))]
+fn lexeme_at(tokens: &Tokens, at: usize) -> Option<Lexeme<'_>>
+    ensures { next_of result ≡ spec.first (drop at (spelling.terminals_of tokens.now)) }
+{
+    match token_at(tokens, at) {
+        None => None,
+        Some(found) => Some(spelled(tokens.spelling(at), found.token.kind)),
+    }
 }
 
 impl<'a> Cursor<'a> {
+    pub fn new(tokens: &'a Tokens) -> Cursor<'a>
+        ensures { result ≡ spelling.terminals_of tokens.now }
+    {
+        Cursor {
+            tokens,
+            at: 0,
+            next: lexeme_at(tokens, 0),
+        }
+    }
+
+    /// A cursor at the same place.
+    pub fn ahead(&self) -> Cursor<'a>
+        ensures { result ≡ self.now }
+    {
+        Cursor {
+            tokens: self.tokens,
+            at: self.at,
+            next: self.next,
+        }
+    }
+
     /// How many tokens are left.
+    #[tactic(auto, using(crate::proofs::TokenLemmas::cursor_rules))]
     pub fn left(&self) -> usize
         ensures { result ≡ length self.now }
     {
-        self.rest.len()
+        self.tokens.tokens().len() - self.at
     }
 
     pub fn peek(&self) -> Option<Lexeme<'a>>
         ensures { next_of result ≡ spec.first self.now }
     {
-        match self.rest {
-            [next, ..] => Some(*next),
-            [] => None,
-        }
+        self.next
     }
 
     /// Leaves out the next token, if there is one.
+    #[tactic(auto, using(crate::proofs::TokenLemmas::cursor_rules))]
     pub fn skip(&mut self)
         ensures { self.new ≡ spec.tail self.old }
     {
-        if let [_, rest @ ..] = self.rest {
-            self.rest = rest;
+        if self.at < self.tokens.tokens().len() {
+            let at = self.at + 1;
+            let next = lexeme_at(self.tokens, at);
+            self.at = at;
+            self.next = next;
         }
     }
 
     /// The text that comes next, unescaped.
-    #[tactic(auto, unfolding(crate::specs::Lexemes::unescaped))]
     pub fn text(&self, alloc: Global) -> Result<Vec<u8>, NoMemory>
         requires { (t : List ℕ) × (spec.first self.now ≡ Some (terminal.Text t)) }
         ensures { IfOk result (λ v. spec.first self.now ≡ Some (terminal.Text v.items)) }
     {
-        match self.rest {
-            [Lexeme::Text(text), ..] => Ok(Vec::from_slice(alloc, *text)?),
-            _ => unreachable!(),
+        match token_at(self.tokens, self.at) {
+            None => unreachable!(),
+            Some(_) => unescape(alloc, inside(self.tokens.spelling(self.at), 1)),
+        }
+    }
+
+    /// Takes the text that comes next, unescaped.
+    #[tactic(auto, unfolding(crate::specs::Ruling::read_text))]
+    pub fn take_text(&mut self, alloc: Global) -> Result<Vec<u8>, Fault>
+        ensures { Gives bytes_of (ruling.read_text self.old) result self.new }
+    {
+        match self.peek() {
+            Some(Lexeme::Text(_)) => {
+                let text = self.text(alloc)?;
+                self.skip();
+                Ok(text)
+            }
+            _ => Err(Fault::Syntax),
+        }
+    }
+
+    /// Takes the number that comes next, which is never below 0.
+    #[tactic(auto, unfolding(crate::specs::Ruling::read_number))]
+    pub fn number(&mut self) -> Result<i64, Fault>
+        ensures value { Gives (λ n. n) (ruling.read_number self.old) result self.new }
+        ensures natural { IfOk result (λ n. pos 0 ≤ℤ n) }
+    {
+        match self.next {
+            Some(Lexeme::Number(value)) => {
+                self.natural(value);
+                self.skip();
+                Ok(value)
+            }
+            _ => Err(Fault::Syntax),
+        }
+    }
+
+    // A number is written without a sign.
+    fn natural(&self, value: i64)
+        requires { spec.first self.now ≡ Some (terminal.Number value) }
+        ensures { pos 0 ≤ℤ value }
+    {
+        match token_at(self.tokens, self.at) {
+            None => unreachable!(),
+            Some(_) => {
+                let _spelled = self.tokens.spelling(self.at);
+            }
         }
     }
 
@@ -133,14 +222,12 @@ impl<'a> Cursor<'a> {
         self.sees_operator(Infix::Remainder) && self.second_is_of()
     }
 
-    #[tactic(auto, unfolding(crate::specs::Input::sees))]
     fn second_is_of(&self) -> bool
         ensures { result ≡ spec.sees Sign.Of (spec.tail self.now) }
     {
-        match self.rest {
-            [_, Lexeme::Sign(next), ..] => same_sign(*next, Sign::Of),
-            _ => false,
-        }
+        let mut second = self.ahead();
+        second.skip();
+        second.sees(Sign::Of)
     }
 
     /// The operator `not` or `defined`, if it comes next.
