@@ -7,4 +7,4 @@ use Rattle.yr_parser.proofs.parsing.keeps_forms.Goals as goal
 
 pub returns : goal.returns
 returns c =
-    gathered-good c.args.tokens.now (subst (λ (ts : List FileToken). All (LiesInFile c.args.tokens.now.files) ts) c.tokens-_list.ensures.value c.tokens-_list.ensures.lies)
+    gathered-good c.args.tokens.now (subst (λ (ts : List FileToken). All (LiesInFile c.args.tokens.now.files) ts) c.tokens-list.ensures.value c.tokens-list.ensures.lies)

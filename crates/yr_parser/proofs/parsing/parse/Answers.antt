@@ -14,7 +14,7 @@ declarations-init c = rw (c.new-declarations.ensures.items, c.new-rest.ensures) 
 pub returns-then-is_deep-clause-refused : goal.returns-then-is_deep-clause-refused
 returns-then-is_deep-clause-refused c =
     is-deep (places_of c.args.tokens.now) (terminals_of c.args.tokens.now) c.declarations.rest c.declarations.declarations.items c.len-declaration.result c.file_at-file.result
-    c.line_at-line.result c.left-left.result c.declarations.invariant.read c.len-declaration.ensures c.left-left.ensures (omega arith) c.file_at-file.ensures c.line_at-line.ensures
+    c.line_at-line.result c.left-left.result c.declarations.invariant.read (c.len-declaration.ensures ∙ c.declarations.declarations.ok.0) c.left-left.ensures (omega arith) c.file_at-file.ensures c.line_at-line.ensures
     (sym c.is_deep.ensures ∙ c.if-is_deep.true)
 
 pub declarations-smaller : goal.declarations-smaller
@@ -35,7 +35,7 @@ pub returns-in-Err-Syntax-clause-refused : goal.returns-in-Err-Syntax-clause-ref
 returns-in-Err-Syntax-clause-refused c =
     let shallow : deep_from 0 0 c.declarations.rest ≡ false = sym c.is_deep.ensures ∙ c.if-is_deep.false in
     is-syntax (places_of c.args.tokens.now) (terminals_of c.args.tokens.now) c.declarations.rest c.declarations.declarations.items c.len-declaration.result c.file_at-file.result
-    c.line_at-line.result c.left-left.result c.declarations.invariant.read c.len-declaration.ensures c.left-left.ensures (omega arith) c.file_at-file.ensures c.line_at-line.ensures shallow
+    c.line_at-line.result c.left-left.result c.declarations.invariant.read (c.len-declaration.ensures ∙ c.declarations.declarations.ok.0) c.left-left.ensures (omega arith) c.file_at-file.ensures c.line_at-line.ensures shallow
     (c.in-Err-Syntax.ensures.none (ap (λ (f : Fault). Err f) c.in-Err-Syntax.field-0-is) shallow)
 
 pub returns-clause-forms : goal.returns-clause-forms
