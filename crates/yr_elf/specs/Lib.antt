@@ -4,3 +4,4 @@ pub mod Entries
 pub mod Names
 pub mod EntryPoint
 pub mod Fields
+pub mod ModuleRows

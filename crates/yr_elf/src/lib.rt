@@ -5,8 +5,10 @@ mod elf_file;
 mod entry_point;
 mod field;
 mod layout;
+mod module_rows;
 mod name;
 mod row;
 mod table;
 
 pub use elf_file::Elf;
+pub use module_rows::elf_names;
