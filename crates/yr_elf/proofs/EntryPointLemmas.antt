@@ -22,6 +22,6 @@ first_below-found f zero k x lt none at = absurd (omega arith)
 first_below-found f (suc n) k x lt none at =
     let low : k ≤ n = omega arith in
     elim (eq-or-lt_of_le low) [
-      inl e ↦ subst (λ (m : ℕ). first_below f (suc m) ≡ Some x) e (ap (λ o. option_or o (f k)) none ∙ at)
-    | inr h ↦ ap (λ o. option_or o (f n)) (first_below-found f n k x h none at)
+      | inl e ↦ subst (λ (m : ℕ). first_below f (suc m) ≡ Some x) e (ap (λ o. option_or o (f k)) none ∙ at)
+      | inr h ↦ ap (λ o. option_or o (f n)) (first_below-found f n k x h none at)
     ]

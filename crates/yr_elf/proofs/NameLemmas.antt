@@ -4,7 +4,12 @@ use Rattle.std.specs.Option.{option_map}
 use Rattle.std.proofs.lemmas.Bool.{eqb-true, eq-eqb}
 use Rattle.std.proofs.lemmas.List.{take_rest}
 use Rattle.memchr.specs.Find.{IsFirstByte, is_byte}
-use Rattle.yr_elf.specs.Names.{until_zero, text_at}
+use Rattle.std.specs.Prelude.{ℤ, IfSome}
+use Rattle.std.proofs.lemmas.List.{length-drop}
+use Rattle.yr_elf.specs.declared.layout.Layout.{Layout}
+use Rattle.yr_elf.specs.Rows.{number_in, sh_name, sh_offset}
+use Rattle.yr_elf.specs.Entries.{section_place}
+use Rattle.yr_elf.specs.Names.{until_zero, text_at, name_between, strings_place, section_name}
 
 -- where no byte is 00 there is no such text
 until_zero-none : (bs : List ℕ) → ((k : ℕ) → k < length bs → slice_index bs k ≢ 0) → until_zero bs ≡ None
@@ -31,3 +36,30 @@ until_zero-first bs (Some k) h =
 -- the same of the rest of a file
 pub text_at-first : (file : List ℕ) (at : ℕ) (r : Option ℕ) → IsFirstByte (is_byte 0) (take (length file - at) (drop at file)) r → text_at file at ≡ option_map (λ k. take k (take (length file - at) (drop at file))) r
 text_at-first file at r h = ap until_zero (sym (take_rest file at)) ∙ until_zero-first (take (length file - at) (drop at file)) r h
+
+-- a text is not longer than what it stands in
+longer : (b n : ℕ) (o : Option (List ℕ)) → IfSome o (λ t. length t ≤ n) → IfSome (option_map (λ t. b ∷ t) o) (λ t. length t ≤ suc n)
+longer b n None h = tt
+longer b n (Some t) h = omega arith
+
+until_zero-short : (bs : List ℕ) → IfSome (until_zero bs) (λ t. length t ≤ length bs)
+until_zero-short [] = tt
+until_zero-short (zero ∷ bs) = omega arith
+until_zero-short (suc b ∷ bs) = longer (suc b) (length bs) (until_zero bs) (until_zero-short bs)
+
+within_more : (n m : ℕ) (o : Option (List ℕ)) → n ≤ m → IfSome o (λ t. length t ≤ n) → IfSome o (λ t. length t ≤ m)
+within_more n m None le h = tt
+within_more n m (Some t) le h = omega arith
+
+text_at-short : (file : List ℕ) (at : ℕ) → IfSome (text_at file at) (λ t. length t ≤ length file)
+text_at-short file at =
+    within_more (length (drop at file)) (length file) (text_at file at) (omega (arith, length-drop at file)) (until_zero-short (drop at file))
+
+name_between-short : (l : Layout) (file : List ℕ) (at strings : Option ℕ) → IfSome (name_between l file at strings) (λ t. length t ≤ length file)
+name_between-short l file None strings = tt
+name_between-short l file (Some at) None = tt
+name_between-short l file (Some at) (Some strings) =
+    text_at-short file (number_in l file strings sh_offset + number_in l file at sh_name)
+
+pub section_name-short : (l : Layout) (file : List ℕ) (index : ℤ) → IfSome (section_name l file index) (λ t. length t ≤ length file)
+section_name-short l file index = name_between-short l file (section_place l file index) (strings_place l file)

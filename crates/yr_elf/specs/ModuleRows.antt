@@ -1,10 +1,12 @@
 -- What a rule may name of the module `elf`: its fields, its arrays, and the constants of the standard (System V gABI: "ELF Header",
 -- "Sections", "Program Header", and the processors of e_machine).
-use Rattle.std.specs.Prelude.{ℕ, pos, List, [], ◌∷◌, ◌++◌, codes}
+use Rattle.std.specs.Prelude.{ℕ, ◌≡◌, pos, Some, List, [], ◌∷◌, ◌++◌, codes}
 use Rattle.yr_base.specs.declared.value.Kind.{Kind}
 use Rattle.yr_base.specs.declared.value.Kind.TheVariants as kind
-use Rattle.yr_values.specs.declared.names.ModuleEntry.TheVariants.{Constant, Field, Array}
+use Rattle.yr_values.specs.declared.names.ModuleEntry.TheVariants.{Constant, Field, Array, Call}
 use Rattle.yr_values.specs.Names.{NamedRow, NamedModule}
+use Rattle.yr_values.specs.declared.names.ModuleEntry.{ModuleEntry}
+use Rattle.yr_elf.specs.Fields.{elf_kind}
 
 -- a field that is a number, one that is a text, an array by the id of its number of entries, and a constant
 abbrev pub number : List ℕ → ℕ → NamedRow
@@ -95,3 +97,13 @@ constant_rows =
 -- the module
 abbrev pub elf_module : NamedModule
 elf_module = record { name = codes "elf"; rows = number_rows ++ array_rows ++ constant_rows }
+
+-- what an entry leads to is a field of the kind that it says
+abbrev pub EntryLeadsToField : ModuleEntry → Type 0
+EntryLeadsToField (Constant n) = Unit {0}
+EntryLeadsToField (Field id k) = elf_kind id ≡ Some k
+EntryLeadsToField (Array count) = elf_kind count ≡ Some kind.Number
+EntryLeadsToField (Call id k) = ⊥
+
+abbrev pub LeadsToField : NamedRow → Type 0
+LeadsToField r = EntryLeadsToField r.entry

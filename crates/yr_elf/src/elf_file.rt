@@ -8,6 +8,7 @@ use yr_values::Modules;
 
 /// The fields of a file, which give undefined where it is no ELF file. It lends from the file; each field is read when
 /// it is asked for. In clauses it is the file's bytes.
+#[derive(Drop)]
 pub struct Elf<'a> {
     file: &'a [u8],
     layout: Option<Layout>,

@@ -77,7 +77,12 @@ fn text(alloc: Global, bytes: &str) -> Result<Vec<u8>, NoMemory>
     Ok(text)
 }
 
-fn push(alloc: Global, rows: &mut Vec<ModuleRow>, path: &str, entry: ModuleEntry) -> Result<(), NoMemory>
+fn push(
+    alloc: Global,
+    rows: &mut Vec<ModuleRow>,
+    path: &str,
+    entry: ModuleEntry,
+) -> Result<(), NoMemory>
     ensures { OnOk result (map row_shown rows.new.items ≡ map row_shown rows.old.items ++ record { path = path.now; entry = entry } ∷ []) }
 {
     let path = text(alloc, path)?;
@@ -85,7 +90,11 @@ fn push(alloc: Global, rows: &mut Vec<ModuleRow>, path: &str, entry: ModuleEntry
     Ok(())
 }
 
-fn push_numbers(alloc: Global, rows: &mut Vec<ModuleRow>, numbers: &[(&str, u16)]) -> Result<(), NoMemory>
+fn push_numbers(
+    alloc: Global,
+    rows: &mut Vec<ModuleRow>,
+    numbers: &[(&str, u16)],
+) -> Result<(), NoMemory>
     ensures { OnOk result (map row_shown rows.new.items ≡ map row_shown rows.old.items ++ map (λ r. number r.0.now r.1) numbers.now) }
 {
     for (path, id) in numbers {
@@ -95,7 +104,11 @@ fn push_numbers(alloc: Global, rows: &mut Vec<ModuleRow>, numbers: &[(&str, u16)
     Ok(())
 }
 
-fn push_constants(alloc: Global, rows: &mut Vec<ModuleRow>, constants: &[(&str, u8)]) -> Result<(), NoMemory>
+fn push_constants(
+    alloc: Global,
+    rows: &mut Vec<ModuleRow>,
+    constants: &[(&str, u8)],
+) -> Result<(), NoMemory>
     ensures { OnOk result (map row_shown rows.new.items ≡ map row_shown rows.old.items ++ map (λ r. constant r.0.now r.1) constants.now) }
 {
     for (path, value) in constants {
@@ -124,7 +137,12 @@ fn push_array_rows(alloc: Global, rows: &mut Vec<ModuleRow>) -> Result<(), NoMem
     push(alloc, rows, "sections", ModuleEntry::Array { count: 4 })?;
     push(alloc, rows, "segments", ModuleEntry::Array { count: 5 })?;
     let kind = Kind::Text;
-    push(alloc, rows, "sections[].name", ModuleEntry::Field { id: 16, kind })?;
+    push(
+        alloc,
+        rows,
+        "sections[].name",
+        ModuleEntry::Field { id: 16, kind },
+    )?;
     Ok(())
 }
 

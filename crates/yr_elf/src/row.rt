@@ -18,30 +18,51 @@ pub(crate) enum Size {
 pub(crate) struct Row(pub(crate) u8, pub(crate) u8, pub(crate) Size);
 
 pub(crate) const E_TYPE: Row = Row(16, 16, Size::Half);
+
 pub(crate) const E_MACHINE: Row = Row(18, 18, Size::Half);
+
 pub(crate) const E_ENTRY: Row = Row(24, 24, Size::Native);
+
 pub(crate) const E_PHOFF: Row = Row(28, 32, Size::Native);
+
 pub(crate) const E_SHOFF: Row = Row(32, 40, Size::Native);
+
 pub(crate) const E_PHENTSIZE: Row = Row(42, 54, Size::Half);
+
 pub(crate) const E_PHNUM: Row = Row(44, 56, Size::Half);
+
 pub(crate) const E_SHENTSIZE: Row = Row(46, 58, Size::Half);
+
 pub(crate) const E_SHNUM: Row = Row(48, 60, Size::Half);
+
 pub(crate) const E_SHSTRNDX: Row = Row(50, 62, Size::Half);
 
 pub(crate) const SH_NAME: Row = Row(0, 0, Size::Word);
+
 pub(crate) const SH_TYPE: Row = Row(4, 4, Size::Word);
+
 pub(crate) const SH_FLAGS: Row = Row(8, 8, Size::Native);
+
 pub(crate) const SH_ADDR: Row = Row(12, 16, Size::Native);
+
 pub(crate) const SH_OFFSET: Row = Row(16, 24, Size::Native);
+
 pub(crate) const SH_SIZE: Row = Row(20, 32, Size::Native);
 
 pub(crate) const P_TYPE: Row = Row(0, 0, Size::Word);
+
 pub(crate) const P_FLAGS: Row = Row(24, 4, Size::Word);
+
 pub(crate) const P_OFFSET: Row = Row(4, 8, Size::Native);
+
 pub(crate) const P_VADDR: Row = Row(8, 16, Size::Native);
+
 pub(crate) const P_PADDR: Row = Row(12, 24, Size::Native);
+
 pub(crate) const P_FILESZ: Row = Row(16, 32, Size::Native);
+
 pub(crate) const P_MEMSZ: Row = Row(20, 40, Size::Native);
+
 pub(crate) const P_ALIGN: Row = Row(28, 48, Size::Native);
 
 impl Row {
