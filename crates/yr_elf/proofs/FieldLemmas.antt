@@ -2,7 +2,7 @@
 use Rattle.std.proofs.Common.{◌≡◌, ◌≤◌, ℕ, ℤ, List, length, Option, None, Some, refl, subst}
 use Rattle.std.specs.Option.{option_map}
 use Rattle.yr_base.specs.declared.value.Kind.TheVariants as kind
-use Rattle.yr_values.specs.Values.{Value, Undefined, Number, Flag, Text}
+use Rattle.yr_values.specs.Values.{Value, Undefined, Text}
 use Rattle.yr_values.specs.Modules.{Suits}
 use Rattle.yr_elf.specs.declared.layout.Layout.{Layout}
 use Rattle.yr_elf.specs.declared.field.Field.{Field}

@@ -6,7 +6,6 @@ use Rattle.yr_base.specs.declared.value.Kind.{Kind}
 use Rattle.yr_base.specs.declared.value.Kind.TheVariants as kind
 use Rattle.yr_values.specs.Values.{Value, Undefined, Number, Text}
 use Rattle.yr_elf.specs.declared.layout.Layout.{Layout}
-use Rattle.yr_elf.specs.declared.layout.Class.{Class}
 use Rattle.yr_elf.specs.declared.field.Field.{Field}
 use Rattle.yr_elf.specs.declared.field.Field.TheVariants.{Header, EntryPoint, SectionName, Section, Segment}
 use Rattle.yr_elf.specs.Layout.{layout_of, header_size}

@@ -1,5 +1,5 @@
 -- How the numbers of an ELF file are laid out (System V gABI, "ELF Header": "ELF Identification", "Data Encoding").
-use Rattle.std.specs.Prelude.{ℕ, ◌+◌, ◌==◌, nat_eq, nat_le, if◌then◌else◌, List, [], ◌∷◌, length, Bool, IsSome, slice_get, Option, None, Some}
+use Rattle.std.specs.Prelude.{ℕ, ◌==◌, nat_eq, nat_le, if◌then◌else◌, List, [], ◌∷◌, length, Bool, IsSome, slice_get, Option, None, Some}
 use Rattle.std.specs.List.{starts_with}
 use Rattle.std.specs.Option.{option_and_then}
 use Rattle.byteorder.specs.Endian.{little_number, big_number}

@@ -1,7 +1,6 @@
 -- What a rule may name of the module `elf`: its fields, its arrays, and the constants of the standard (System V gABI: "ELF Header",
 -- "Sections", "Program Header", and the processors of e_machine).
 use Rattle.std.specs.Prelude.{ℕ, ◌≡◌, pos, Some, List, [], ◌∷◌, ◌++◌, codes}
-use Rattle.yr_base.specs.declared.value.Kind.{Kind}
 use Rattle.yr_base.specs.declared.value.Kind.TheVariants as kind
 use Rattle.yr_values.specs.declared.names.ModuleEntry.TheVariants.{Constant, Field, Array, Call}
 use Rattle.yr_values.specs.Names.{NamedRow, NamedModule}

@@ -7,7 +7,7 @@ use Rattle.yr_elf.specs.declared.layout.Layout.{Layout}
 use Rattle.yr_elf.specs.declared.row.Size.{Size}
 use Rattle.yr_elf.specs.declared.row.Size.TheVariants.{Half, Word, Native}
 use Rattle.yr_elf.specs.declared.row.Row.{Row}
-use Rattle.yr_elf.specs.Layout.{number_of, header_size}
+use Rattle.yr_elf.specs.Layout.{number_of}
 
 -- a field: its place in its header for 32 and for 64 bits, and its size
 abbrev pub row : ℕ → ℕ → Size → Row

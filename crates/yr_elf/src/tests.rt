@@ -47,12 +47,25 @@ fn number(file: &[u8], id: u16, index: i64) -> Option<i64> {
     }
 }
 
-// The length of a section's name, where it is this one or is not there.
-fn name(file: &[u8], index: i64, want: &[u8]) -> Option<i64> {
+fn has_name(file: &[u8], index: i64, want: &[u8]) -> bool {
     match Elf::read(file).field(16, index) {
-        Value::Text(text) if text == want => Some(text.len() as i64),
-        Value::Undefined => None,
-        _ => Some(-1),
+        Value::Text(text) => text == want,
+        _ => false,
+    }
+}
+
+fn has_no_name(file: &[u8], index: i64) -> bool {
+    match Elf::read(file).field(16, index) {
+        Value::Undefined => true,
+        _ => false,
+    }
+}
+
+// The first bytes of a file.
+fn cut(file: &[u8], size: usize) -> &[u8] {
+    match file.get(..size) {
+        Some(front) => front,
+        None => file,
     }
 }
 
@@ -173,53 +186,72 @@ fn leads_to(names: &ModuleNames, path: &[u8]) -> Option<i64> {
     None
 }
 
+// Ids, indexes and numbers of the file for 32 bits, and of that for 64 bits.
+const NARROW: [(u16, i64, i64); 18] = [
+    (1, 0, 3),
+    (2, -1, 8),
+    (3, 0, 260),
+    (4, 0, 2),
+    (5, 0, 2),
+    (17, 1, 3),
+    (18, 1, 2),
+    (19, 1, 0xfffffff0),
+    (20, 1, 200),
+    (21, 1, 6),
+    (32, 1, 6),
+    (33, 1, 5),
+    (34, 1, 256),
+    (35, 1, 0x401000),
+    (36, 1, 0x501000),
+    (37, 1, 16),
+    (38, 1, 32),
+    (39, 1, 4096),
+];
+
+const WIDE: [(u16, i64, i64); 18] = [
+    (1, 0, 3),
+    (2, 7, 21),
+    (3, 0, 2),
+    (4, 0, 2),
+    (5, 0, 2),
+    (17, 1, 3),
+    (18, 1, i64::MIN),
+    (19, 1, 9),
+    (20, 1, 304),
+    (21, 1, 6),
+    (32, 1, 6),
+    (33, 1, 5),
+    (34, 1, -2),
+    (35, 1, -0x7ffff000),
+    (36, 1, 7),
+    (37, 1, 16),
+    (38, 1, 32),
+    (39, 1, 4096),
+];
+
 #[test]
 fn fields(rt: HostRuntime) -> Result<(), Fail> {
     for order in [1, 2] {
         let narrow = narrow(order);
-        let wide = wide(order);
-        let rows = [
-            ("type", number(&narrow, 1, 0), Some(3)),
-            ("machine", number(&narrow, 2, -1), Some(8)),
-            ("entry point", number(&narrow, 3, 0), Some(260)),
-            ("sections", number(&narrow, 4, 0), Some(2)),
-            ("segments", number(&narrow, 5, 0), Some(2)),
-            ("section type", number(&narrow, 17, 1), Some(3)),
-            ("section flags", number(&narrow, 18, 1), Some(2)),
-            ("section address", number(&narrow, 19, 1), Some(0xfffffff0)),
-            ("section offset", number(&narrow, 20, 1), Some(200)),
-            ("section size", number(&narrow, 21, 1), Some(6)),
-            ("section name", name(&narrow, 1, b"names"), Some(5)),
-            ("segment type", number(&narrow, 32, 1), Some(6)),
-            ("segment flags", number(&narrow, 33, 1), Some(5)),
-            ("segment offset", number(&narrow, 34, 1), Some(256)),
-            ("virtual", number(&narrow, 35, 1), Some(0x401000)),
-            ("physical", number(&narrow, 36, 1), Some(0x501000)),
-            ("file size", number(&narrow, 37, 1), Some(16)),
-            ("memory size", number(&narrow, 38, 1), Some(32)),
-            ("alignment", number(&narrow, 39, 1), Some(4096)),
-            ("no header", number(&narrow[..51], 1, 0), None),
-            ("wide machine", number(&wide, 2, 0), Some(21)),
-            ("wide entry point", number(&wide, 3, 0), Some(2)),
-            ("wide section flags", number(&wide, 18, 1), Some(i64::MIN)),
-            ("wide address", number(&wide, 19, 1), Some(9)),
-            ("wide section offset", number(&wide, 20, 1), Some(304)),
-            ("wide section size", number(&wide, 21, 1), Some(6)),
-            ("wide section name", name(&wide, 1, b"names"), Some(5)),
-            ("a name to its 00", name(&wide[..311], 1, b"names"), Some(5)),
-            ("a name without 00", name(&wide[..310], 1, b"names"), None),
-            ("wide segment type", number(&wide, 32, 1), Some(6)),
-            ("wide segment flags", number(&wide, 33, 1), Some(5)),
-            ("wide segment offset", number(&wide, 34, 1), Some(-2)),
-            ("wide virtual", number(&wide, 35, 1), Some(-0x7ffff000)),
-            ("wide physical", number(&wide, 36, 1), Some(7)),
-            ("wide file size", number(&wide, 37, 1), Some(16)),
-            ("wide memory size", number(&wide, 38, 1), Some(32)),
-            ("wide alignment", number(&wide, 39, 1), Some(4096)),
-        ];
-        for (what, got, want) in &rows {
-            assert_eq!(rt; *got, *want, "{what} in order {order}");
+        for (id, index, want) in &NARROW {
+            assert_eq!(rt;
+                number(&narrow, *id, *index),
+                Some(*want),
+                "{id} for 32 bits in order {order}"
+            );
         }
+        let wide = wide(order);
+        for (id, index, want) in &WIDE {
+            assert_eq!(rt;
+                number(&wide, *id, *index),
+                Some(*want),
+                "{id} for 64 bits in order {order}"
+            );
+        }
+        assert!(rt; has_name(&narrow, 1, b"names"));
+        assert!(rt; has_name(&wide, 1, b"names"));
+        assert!(rt; has_name(cut(&wide, 311), 1, b"names"));
+        assert!(rt; has_no_name(cut(&wide, 310), 1), "a name without its 00");
     }
     Ok(())
 }
@@ -229,55 +261,60 @@ fn hostile_headers(rt: HostRuntime) -> Result<(), Fail> {
     let header = file(2, 1, &[(16, 2, 2), (18, 2, 62)], &[]);
     let sample = sample();
     let narrow = narrow(1);
+    let no_magic = changed(sample, 0, 1, 0x7e);
+    let class_3 = changed(sample, 4, 1, 3);
+    let order_0 = changed(sample, 5, 1, 0);
     let more = changed(sample, 60, 2, 5);
     let no_names = changed(sample, 62, 2, 3);
     let far = changed(sample, 280, 8, u64::MAX);
     let first = changed(narrow, 24, 4, 0x400003);
     let nowhere = changed(narrow, 24, 4, 0x401020);
     let other_size = changed(narrow, 42, 2, 33);
-    let names = elf_names(rt.alloc())?;
-    let rows = [
-        ("a header alone", number(&header[..64], 1, 0), Some(2)),
-        ("has no section", number(&header[..64], 21, 0), None),
-        ("63 bytes of it", number(&header[..63], 1, 0), None),
-        ("class 3", number(&file(3, 1, &[], &[]), 1, 0), None),
-        ("order 0", number(&file(1, 0, &[], &[]), 1, 0), None),
-        ("no magic", number(&sample[1..], 1, 0), None),
-        ("nothing", number(&[], 1, 0), None),
-        ("no segment, no entry point", number(&sample, 3, 0), None),
-        ("three sections", number(&sample, 4, 0), Some(3)),
-        ("flags", number(&sample, 18, 1), Some(6)),
-        ("an empty name", name(&sample, 0, b""), Some(0)),
-        (".text", name(&sample, 1, b".text"), Some(5)),
-        (".shstrtab", name(&sample, 2, b".shstrtab"), Some(9)),
-        ("section 3", number(&sample, 18, 3), None),
-        ("its name", name(&sample, 3, b""), None),
-        ("section -1", number(&sample, 18, -1), None),
-        ("the last section", number(&sample, 17, 2), Some(3)),
-        ("cut by a byte", number(&sample[..319], 17, 2), None),
-        ("number of more sections", number(&more, 4, 0), Some(5)),
-        ("the last in the file", number(&more, 17, 2), Some(3)),
-        ("the next", number(&more, 17, 3), None),
-        ("names that cannot be read", name(&no_names, 1, b""), None),
-        ("flags beside them", number(&no_names, 18, 1), Some(6)),
-        ("places do not wrap", name(&far, 1, b""), None),
-        ("entry point in the first", number(&first, 3, 0), Some(3)),
-        ("entry point in none", number(&nowhere, 3, 0), None),
-        ("another entry size", number(&other_size, 32, 0), None),
-        ("its entry point", number(&other_size, 3, 0), None),
-        ("id 0", number(&sample, 0, 0), None),
-        ("id 6", number(&sample, 6, 0), None),
-        ("id 22", number(&sample, 22, 0), None),
-        ("id 40", number(&narrow, 40, 0), None),
-        ("ET_EXEC", leads_to(&names, b"ET_EXEC"), Some(2)),
-        ("PF_R", leads_to(&names, b"PF_R"), Some(4)),
-        ("sections", leads_to(&names, b"sections"), Some(4)),
-        ("name", leads_to(&names, b"sections[].name"), Some(16)),
-        ("last", leads_to(&names, b"segments[].alignment"), Some(39)),
-        ("none", leads_to(&names, b"segments[].name"), None),
+    let rows: [(&str, &[u8], u16, i64, Option<i64>); 28] = [
+        ("a header alone", cut(&header, 64), 1, 0, Some(2)),
+        ("without a section", cut(&header, 64), 21, 0, None),
+        ("63 bytes of it", cut(&header, 63), 1, 0, None),
+        ("51 bytes for 32 bits", cut(&narrow, 51), 1, 0, None),
+        ("no magic", &no_magic, 1, 0, None),
+        ("class 3", &class_3, 1, 0, None),
+        ("order 0", &order_0, 1, 0, None),
+        ("an empty file", cut(&sample, 0), 1, 0, None),
+        ("no segment, no entry point", &sample, 3, 0, None),
+        ("three sections", &sample, 4, 0, Some(3)),
+        ("flags", &sample, 18, 1, Some(6)),
+        ("section 3", &sample, 18, 3, None),
+        ("section -1", &sample, 18, -1, None),
+        ("the last section", &sample, 17, 2, Some(3)),
+        ("the last section, cut", cut(&sample, 319), 17, 2, None),
+        ("number of more sections", &more, 4, 0, Some(5)),
+        ("the last in the file", &more, 17, 2, Some(3)),
+        ("the next", &more, 17, 3, None),
+        ("flags without names", &no_names, 18, 1, Some(6)),
+        ("entry point in the first", &first, 3, 0, Some(3)),
+        ("entry point in none", &nowhere, 3, 0, None),
+        ("another entry size", &other_size, 32, 0, None),
+        ("its entry point", &other_size, 3, 0, None),
+        ("id 0", &sample, 0, 0, None),
+        ("id 6", &sample, 6, 0, None),
+        ("id 22", &sample, 22, 0, None),
+        ("id 31", &narrow, 31, 0, None),
+        ("id 40", &narrow, 40, 0, None),
     ];
-    for (what, got, want) in &rows {
-        assert_eq!(rt; *got, *want, "{what}");
+    for (what, file, id, index, want) in &rows {
+        assert_eq!(rt; number(file, *id, *index), *want, "{what}");
     }
+    assert!(rt; has_name(&sample, 0, b""), "an empty name");
+    assert!(rt; has_name(&sample, 1, b".text"));
+    assert!(rt; has_name(&sample, 2, b".shstrtab"));
+    assert!(rt; has_no_name(&sample, 3));
+    assert!(rt; has_no_name(&no_names, 1), "names that cannot be read");
+    assert!(rt; has_no_name(&far, 1), "places do not wrap");
+    let names = elf_names(rt.alloc())?;
+    assert_eq!(rt; leads_to(&names, b"ET_EXEC"), Some(2));
+    assert_eq!(rt; leads_to(&names, b"PF_R"), Some(4));
+    assert_eq!(rt; leads_to(&names, b"sections"), Some(4));
+    assert_eq!(rt; leads_to(&names, b"sections[].name"), Some(16));
+    assert_eq!(rt; leads_to(&names, b"segments[].alignment"), Some(39));
+    assert_eq!(rt; leads_to(&names, b"segments[].name"), None);
     Ok(())
 }

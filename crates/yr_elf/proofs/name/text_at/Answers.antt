@@ -1,6 +1,5 @@
 -- The text found by the search for 00.
-use Rattle.std.proofs.Common.{◌∙◌, sym, ap, None, Some}
-use Rattle.std.specs.Option.{option_map}
+use Rattle.std.proofs.Common.{sym, None, Some}
 use Rattle.yr_elf.proofs.NameLemmas.{text_at-first}
 use Rattle.yr_elf.proofs.name.text_at.Goals as goal
 

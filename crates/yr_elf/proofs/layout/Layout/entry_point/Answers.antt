@@ -1,6 +1,6 @@
 -- The first segment that holds the entry point gives its place.
-use Rattle.std.proofs.Common.{◌≡◌, ◌∙◌, sym, ap, None, Some}
-use Rattle.yr_elf.specs.EntryPoint.{first_below, place_in_segment}
+use Rattle.std.proofs.Common.{sym}
+use Rattle.yr_elf.specs.EntryPoint.{place_in_segment}
 use Rattle.yr_elf.proofs.EntryPointLemmas.{first_below-zero, first_below-none, first_below-found}
 use Rattle.yr_elf.proofs.layout.Layout.entry_point.Goals as goal
 
