@@ -12,7 +12,7 @@ ghost use Rattle.yr_lexer.specs.Reading as reading;
 
 use crate::fault::FaultRow;
 use crate::hex::past_hex;
-use crate::number::{is_float, number_in, TOO_LARGE};
+use crate::number::{TOO_LARGE, is_float, number_in};
 use crate::reserved::is_reserved;
 use crate::sign::{flags_of, past_byte, past_sign};
 use crate::text::{has_good_escapes, past_units};
