@@ -1,3 +1,9 @@
 pub mod Basics
 pub mod GapLemmas
 pub mod StepLemmas
+pub mod OutcomeLemmas
+pub mod NumberLemmas
+pub mod JumpLemmas
+pub mod ByteLemmas
+pub mod ItemComplete
+pub mod ItemSound

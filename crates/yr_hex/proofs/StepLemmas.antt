@@ -43,7 +43,7 @@ if_false true x y e = absurd cc
 
 module _ (inside : Bool) (group : Text → Outcome PartRead) (n : ℕ) (l : ListRead) (t : Text) where
 
-  abbrev rest_of : PartRead → Text → Outcome PartRead
+  abbrev pub rest_of : PartRead → Text → Outcome PartRead
   rest_of p u = if ends (past_gap u) then Some (sequence (push l p), past_gap u) else items_from inside group n (push l p) (past_gap u)
 
   pub items-none : read_item inside group t ≡ None → items_from inside group (suc n) l t ≡ None
@@ -66,10 +66,10 @@ module _ (inside : Bool) (group : Text → Outcome PartRead) (n : ℕ) (l : List
 
 module _ (group : Text → Outcome PartRead) (n : ℕ) (c : ChoiceRead) (t : Text) where
 
-  abbrev after_branch : PartRead → Text → Outcome PartRead
+  abbrev pub after_branch : PartRead → Text → Outcome PartRead
   after_branch p v = if sees 41 v then Some (choice (add c p), after 41 v) else branches_from group n (add c p) (after 41 v)
 
-  abbrev after_bar : Unit {0} → Text → Outcome PartRead
+  abbrev pub after_bar : Unit {0} → Text → Outcome PartRead
   after_bar x u = and_then (read_list true group u) after_branch
 
   pub branches-no_bar : expect 124 t ≡ None → branches_from group (suc n) c t ≡ None
@@ -94,7 +94,7 @@ module _ (group : Text → Outcome PartRead) (n : ℕ) (c : ChoiceRead) (t : Tex
 
 module _ (group : Text → Outcome PartRead) (t : Text) where
 
-  abbrev after_first : PartRead → Text → Outcome PartRead
+  abbrev pub after_first : PartRead → Text → Outcome PartRead
   after_first p u = if sees 41 u then Some (p, after 41 u) else branches_from group (length (after 41 u)) (one_branch p) (after 41 u)
 
   pub group-none : read_list true group t ≡ None → read_group group t ≡ None
