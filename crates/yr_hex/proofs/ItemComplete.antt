@@ -7,10 +7,11 @@ use Rattle.yr_hex.specs.Gaps.{Text, Gap}
 use Rattle.yr_hex.specs.Items.{Item, Items, Branches, Byte, Jump, Group, last, more, only, or}
 use Rattle.yr_hex.specs.Grammar.{half, ReadsJump, ReadsItem, byte, other, jump, group, ReadsItems, last_item, item_then, ReadsBranches, last_branch, branch_then}
 use Rattle.yr_hex.specs.Meaning.{class_of}
-use Rattle.yr_hex.specs.Reading.{Outcome, and_then, sees, after, expect, past_gap, cut, option_cut, numbers, PartRead, ListRead, ChoiceRead, byte_part, jump_part, no_members, push, sequence, one_branch, add, choice, ends, read_numbers, read_jump, read_byte, read_one, read_item, items_from, read_list, branches_from, read_group, group_at, part, group_part, added, pushed}
+use Rattle.yr_hex.specs.Reading.{Outcome, and_then, sees, after, expect, past_gap, cut, capped, numbers, PartRead, ListRead, ChoiceRead, byte_part, jump_part, no_members, push, sequence, one_branch, add, choice, ends, read_numbers, read_jump, read_byte, read_one, read_item, items_from, read_list, branches_from, read_group, group_at, part, group_part, added, pushed}
 use Rattle.yr_hex.proofs.GapLemmas.{gap-read, gap-found, gap-shorter}
 use Rattle.yr_hex.proofs.StepLemmas.{if_true, if_false, then-some, items-end, items-next, branches-end, branches-next, group-end, group-next}
 use Rattle.yr_hex.proofs.OutcomeLemmas.{after-false, sees-other}
+use Rattle.yr_hex.proofs.NumberLemmas.{cut-step, cut-small}
 use Rattle.yr_hex.proofs.JumpLemmas.{jump-read, ReadsJump-shorter}
 use Rattle.yr_hex.proofs.ByteLemmas.{half-is_no, byte-read, other-read}
 
@@ -39,10 +40,10 @@ half-begins h t high e = or_from (h == 41) (h == 124) (ne_eqb h 41 (half-is_no h
 item-begins : {n : ℕ} {i : Item} {t rest : Text} → ReadsItem n t i rest → ends t ≡ false
 item-begins (byte {h = h} {l = l} {high = high} {rest = rest} e f) = half-begins h (l ∷ rest) high e
 item-begins (other e f m) = refl
-item-begins (jump r) = ap ends (jump-read r).1
+item-begins (jump r) = ap ends (jump-read cut cut-step cut-small r).1
 item-begins (group r) = refl
 
-items-begin : {n : ℕ} {is : Items} {t rest : Text} → ReadsItems n t is rest → ends (past_gap t) ≡ false
+pub items-begin : {n : ℕ} {is : Items} {t rest : Text} → ReadsItems n t is rest → ends (past_gap t) ≡ false
 items-begin (last_item g r h) = ap ends (gap-read g) ∙ item-begins r
 items-begin (item_then g r rs) = ap ends (gap-read g) ∙ item-begins r
 
@@ -72,11 +73,11 @@ module _ (inside : Bool) (inner : Text → Outcome PartRead) (t : Text) where
   unfolding read_one
   one-read bytes rest h k e = at_one h k ∙ then-some (read_byte t) (λ b u. Some (byte_part b, u)) (bytes, rest) e
 
-jump_item : (inside : Bool) (inner : Text → Outcome PartRead) (u rest : Text) (n : Numbers) → read_numbers u ≡ Some (n, rest)
+jump_item : (inside : Bool) (inner : Text → Outcome PartRead) (u rest : Text) (n : Numbers) → read_numbers cut u ≡ Some (n, rest)
     → read_item inside inner (91 ∷ u) ≡ Some (jump_part inside (length (91 ∷ u)) n.least n.most, rest)
 unfolding read_jump sees after
 jump_item inside inner u rest n e =
-    at_jump inside inner (91 ∷ u) refl refl ∙ then-some (read_numbers u) (λ m v. Some (jump_part inside (length (91 ∷ u)) m.least m.most, v)) (n, rest) e
+    at_jump inside inner (91 ∷ u) refl refl ∙ then-some (read_numbers cut u) (λ m v. Some (jump_part inside (length (91 ∷ u)) m.least m.most, v)) (n, rest) e
 
 list-read : (n : ℕ) (t rest : Text) (is : Items) (inside : Bool)
     → ((l : ListRead) (m : ℕ) → length (past_gap t) ≤ m → items_from inside (group_at n) m l (past_gap t) ≡ Some (sequence (pushed inside l is), rest))
@@ -100,10 +101,10 @@ mutual
   item-complete (other {n = n} {h = h} {l = l} {high = high} {low = low} {rest = rest} e f m) inside =
       one-read inside (group_at n) (126 ∷ h ∷ l ∷ rest) (class_of true high low) rest refl refl (other-read h l rest high low e f m)
   item-complete (jump {n = n} {least = least} {most = most} {t = t} {rest = rest} r) inside =
-      let j = jump-read r in
+      let j = jump-read cut cut-step cut-small r in
       ap (λ (u : Text). read_item inside (group_at n) u) j.1
-      ∙ jump_item inside (group_at n) j.0 rest (numbers (cut least) (option_cut most)) j.2
-      ∙ ap (λ (u : Text). Some (jump_part inside (length u) (cut least) (option_cut most), rest)) (sym j.1)
+      ∙ jump_item inside (group_at n) j.0 rest (numbers (cut least) (capped cut most)) j.2
+      ∙ ap (λ (u : Text). Some (jump_part inside (length u) (cut least) (capped cut most), rest)) (sym j.1)
   item-complete (group {n = n} {t = t} r) inside = at_group inside (group_at (suc n)) (40 ∷ t) refl ∙ group-complete r refl
 
   pub items-complete : {n : ℕ} {is : Items} {t rest : Text} → ReadsItems n t is rest → ends rest ≡ true → (inside : Bool) (l : ListRead) (m : ℕ) → length (past_gap t) ≤ m

@@ -5,10 +5,11 @@ use Rattle.yr_hex.specs.Gaps.{Text, Gap}
 use Rattle.yr_hex.specs.Items.{Item, Items, Branches, Byte, Jump, Group, last, more, only, or}
 use Rattle.yr_hex.specs.Grammar.{ReadsJump, ReadsItem, jump, group, ReadsItems, last_item, item_then, ReadsBranches, last_branch, branch_then}
 use Rattle.yr_hex.specs.Meaning.{class_of}
-use Rattle.yr_hex.specs.Reading.{Outcome, and_then, sees, after, expect, past_gap, cut, option_cut, numbers, PartRead, ListRead, ChoiceRead, byte_part, jump_part, no_members, push, sequence, one_branch, add, choice, ends, read_numbers, read_jump, read_byte, read_one, read_item, items_from, read_list, branches_from, read_group, group_at, part, group_part, added, pushed}
+use Rattle.yr_hex.specs.Reading.{Outcome, and_then, sees, after, expect, past_gap, cut, capped, numbers, PartRead, ListRead, ChoiceRead, byte_part, jump_part, no_members, push, sequence, one_branch, add, choice, ends, read_numbers, read_jump, read_byte, read_one, read_item, items_from, read_list, branches_from, read_group, group_at, part, group_part, added, pushed}
 use Rattle.yr_hex.proofs.GapLemmas.{gap-found}
 use Rattle.yr_hex.proofs.StepLemmas.{rest_of, after_branch, after_bar, after_first}
 use Rattle.yr_hex.proofs.OutcomeLemmas.{bind-some, some_is, chosen, after-true, after-false, expect-some}
+use Rattle.yr_hex.proofs.NumberLemmas.{cut-step, cut-small}
 use Rattle.yr_hex.proofs.JumpLemmas.{jump-found}
 use Rattle.yr_hex.proofs.ByteLemmas.{byte-found}
 
@@ -25,8 +26,8 @@ GroupFound n t x = (bs : Branches) × ReadsItem n (40 ∷ t) (Group bs) x.1 × (
 jump_item-found : (n : ℕ) (inside : Bool) (t : Text) (x : PartRead × Text) → sees 91 t ≡ true → read_jump inside (length t) (after 91 t) ≡ Some x → ItemFound n inside t x
 unfolding read_jump
 jump_item-found n inside t x h e =
-    let a = bind-some (read_numbers (after 91 t)) (λ m u. Some (jump_part inside (length t) m.least m.most, u)) x e in
-    let j = jump-found (after 91 t) a.0 a.1 in
+    let a = bind-some (read_numbers cut (after 91 t)) (λ m u. Some (jump_part inside (length t) m.least m.most, u)) x e in
+    let j = jump-found cut cut-step cut-small (after 91 t) a.0 a.1 in
     let s = some_is (jump_part inside (length t) a.0.0.least a.0.0.most, a.0.1) x a.2 in
     let r : ReadsJump t j.0 j.1 a.0.1 = subst (λ (u : Text). ReadsJump u j.0 j.1 a.0.1) (sym (after-true 91 t h)) j.2 in
     (Jump (length t) j.0 j.1,

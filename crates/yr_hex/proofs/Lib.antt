@@ -7,3 +7,7 @@ pub mod JumpLemmas
 pub mod ByteLemmas
 pub mod ItemComplete
 pub mod ItemSound
+pub mod BadLemmas
+pub mod MeaningLemmas
+pub mod UniqueLemmas
+pub mod AnswerLemmas

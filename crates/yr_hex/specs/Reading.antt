@@ -94,18 +94,7 @@ read_halves negated t = and_then (read_half t) (λ high u. and_then (read_half u
 unfoldable pub read_byte : Text → Outcome (ℕ → Bool)
 read_byte t = read_halves (sees 126 t) (after 126 t)
 
--- ---- jumps, with numbers that stay at the greatest of 32 bits
-
-abbrev pub cut : ℕ → ℕ
-cut n = min n (2 ^ 32 - 1)
-
-unfoldable pub past_digits : ℕ → Text → ℕ × Text
-past_digits n [] = (n, [])
-past_digits n (b ∷ t) = if is_digit b then past_digits (cut (10 * n + (b - 48))) t else (n, b ∷ t)
-
-unfoldable pub read_number : Text → Outcome ℕ
-read_number [] = None
-read_number (b ∷ t) = if is_digit b then Some (past_digits (b - 48) t) else None
+-- ---- jumps
 
 abbrev pub numbers : ℕ → Option ℕ → Numbers
 numbers least most = record { least = least; most = most }
@@ -114,23 +103,41 @@ numbers least most = record { least = least; most = most }
 unfoldable pub read_close : ℕ → Option ℕ → Text → Outcome Numbers
 read_close least most t = and_then (expect 93 (past_gap t)) (λ _ u. Some (numbers least most, u))
 
--- after the `-` that follows a first number
-unfoldable pub read_last : ℕ → Text → Outcome Numbers
-read_last least t =
-    if sees 93 (past_gap t) then Some (numbers least None, after 93 (past_gap t))
-    else and_then (read_number (after 93 (past_gap t))) (λ most u. read_close least (Some most) u)
+abbrev pub capped : (ℕ → ℕ) → Option ℕ → Option ℕ
+capped cap None = None
+capped cap (Some n) = Some (cap n)
 
--- after a first number
-unfoldable pub read_next : ℕ → Text → Outcome Numbers
-read_next least t = if sees 45 (past_gap t) then read_last least (after 45 (past_gap t)) else read_close least (Some least) (after 45 (past_gap t))
+-- where each number goes through `cap` at each digit
+module _ (cap : ℕ → ℕ) where
+  unfoldable pub past_digits : ℕ → Text → ℕ × Text
+  past_digits n [] = (n, [])
+  past_digits n (b ∷ t) = if is_digit b then past_digits (cap (10 * n + (b - 48))) t else (n, b ∷ t)
 
--- at a first number
-unfoldable pub read_first : Text → Outcome Numbers
-read_first t = and_then (read_number t) read_next
+  unfoldable pub read_number : Text → Outcome ℕ
+  read_number [] = None
+  read_number (b ∷ t) = if is_digit b then Some (past_digits (b - 48) t) else None
 
--- after the `[`
-unfoldable pub read_numbers : Text → Outcome Numbers
-read_numbers t = if sees 45 (past_gap t) then read_close 0 None (after 45 (past_gap t)) else read_first (after 45 (past_gap t))
+  -- after the `-` that follows a first number
+  unfoldable pub read_last : ℕ → Text → Outcome Numbers
+  read_last least t =
+      if sees 93 (past_gap t) then Some (numbers least None, after 93 (past_gap t))
+      else and_then (read_number (after 93 (past_gap t))) (λ most u. read_close least (Some most) u)
+
+  -- after a first number
+  unfoldable pub read_next : ℕ → Text → Outcome Numbers
+  read_next least t = if sees 45 (past_gap t) then read_last least (after 45 (past_gap t)) else read_close least (Some least) (after 45 (past_gap t))
+
+  -- at a first number
+  unfoldable pub read_first : Text → Outcome Numbers
+  read_first t = and_then (read_number t) read_next
+
+  -- after the `[`
+  unfoldable pub read_numbers : Text → Outcome Numbers
+  read_numbers t = if sees 45 (past_gap t) then read_close 0 None (after 45 (past_gap t)) else read_first (after 45 (past_gap t))
+
+-- at most the greatest number of 32 bits
+abbrev pub cut : ℕ → ℕ
+cut n = min n (2 ^ 32 - 1)
 
 -- the numbers may stand in a jump
 abbrev pub allows : (inside : Bool) → ℕ → Option ℕ → Bool
@@ -210,7 +217,7 @@ ends (b ∷ t) = b == 41 || b == 124
 
 -- after the `[` of a jump with so many bytes left at it
 unfoldable pub read_jump : (inside : Bool) → ℕ → Text → Outcome PartRead
-read_jump inside left t = and_then (read_numbers t) (λ n u. Some (jump_part inside left n.least n.most, u))
+read_jump inside left t = and_then (read_numbers cut t) (λ n u. Some (jump_part inside left n.least n.most, u))
 
 unfoldable pub read_one : Text → Outcome PartRead
 read_one t = and_then (read_byte t) (λ bytes u. Some (byte_part bytes, u))
@@ -251,14 +258,10 @@ group_at (suc n) t = read_group (group_at n) t
 
 -- ---- what is read where the text says these items
 
-abbrev pub option_cut : Option ℕ → Option ℕ
-option_cut None = None
-option_cut (Some n) = Some (cut n)
-
 abbrev mutual
   pub part : (inside : Bool) → Item → PartRead
   part inside (Byte negated high low) = plain (One (class_of negated high low)) None
-  part inside (Jump left least most) = jump_part inside left (cut least) (option_cut most)
+  part inside (Jump left least most) = jump_part inside left (cut least) (capped cut most)
   part inside (Group bs) = group_part bs
 
   pub group_part : Branches → PartRead

@@ -17,7 +17,7 @@ pub struct Numbers {
 /// The digits in front, which go on with a number, and what follows them.
 #[tactic(auto, unfolding(crate::specs::Reading::past_digits))]
 fn past_digits(first: u32, text: &[u8]) -> (u32, &[u8])
-    ensures { (result.0, result.1.now) ≡ spec.past_digits first text.now }
+    ensures { (result.0, result.1.now) ≡ spec.past_digits spec.cut first text.now }
 {
     let mut rest = text;
     let mut number = first;
@@ -33,7 +33,7 @@ fn past_digits(first: u32, text: &[u8]) -> (u32, &[u8])
 
 #[tactic(auto, unfolding(crate::specs::Reading::read_number))]
 fn number(text: &mut Cursor<'_>) -> Result<u32, HexFault>
-    ensures { Yields (λ x. x) (spec.read_number text.old) result text.new }
+    ensures { Yields (λ x. x) (spec.read_number spec.cut text.old) result text.new }
 {
     match text.rest() {
         [b, more @ ..] if b.is_ascii_digit() => {
@@ -57,7 +57,7 @@ fn close(text: &mut Cursor<'_>, least: u32, most: Option<u32>) -> Result<Numbers
 /// After the `-` that follows a first number.
 #[tactic(auto, unfolding(crate::specs::Reading::read_last))]
 fn last(text: &mut Cursor<'_>, least: u32) -> Result<Numbers, HexFault>
-    ensures { Yields (λ x. x) (spec.read_last least text.old) result text.new }
+    ensures { Yields (λ x. x) (spec.read_last spec.cut least text.old) result text.new }
 {
     text.skip_gap();
     if text.eat(b']') {
@@ -70,7 +70,7 @@ fn last(text: &mut Cursor<'_>, least: u32) -> Result<Numbers, HexFault>
 /// After a first number.
 #[tactic(auto, unfolding(crate::specs::Reading::read_next))]
 fn next(text: &mut Cursor<'_>, least: u32) -> Result<Numbers, HexFault>
-    ensures { Yields (λ x. x) (spec.read_next least text.old) result text.new }
+    ensures { Yields (λ x. x) (spec.read_next spec.cut least text.old) result text.new }
 {
     text.skip_gap();
     if text.eat(b'-') {
@@ -83,7 +83,7 @@ fn next(text: &mut Cursor<'_>, least: u32) -> Result<Numbers, HexFault>
 /// At a first number.
 #[tactic(auto, unfolding(crate::specs::Reading::read_first))]
 fn first(text: &mut Cursor<'_>) -> Result<Numbers, HexFault>
-    ensures { Yields (λ x. x) (spec.read_first text.old) result text.new }
+    ensures { Yields (λ x. x) (spec.read_first spec.cut text.old) result text.new }
 {
     let least = number(text)?;
     next(text, least)
@@ -92,7 +92,7 @@ fn first(text: &mut Cursor<'_>) -> Result<Numbers, HexFault>
 /// The numbers of a jump, from behind its `[` through its `]`.
 #[tactic(auto, unfolding(crate::specs::Reading::read_numbers))]
 pub fn read_numbers(text: &mut Cursor<'_>) -> Result<Numbers, HexFault>
-    ensures { Yields (λ x. x) (spec.read_numbers text.old) result text.new }
+    ensures { Yields (λ x. x) (spec.read_numbers spec.cut text.old) result text.new }
 {
     text.skip_gap();
     if text.eat(b'-') {

@@ -7,8 +7,11 @@ mod fault;
 mod gap;
 mod item;
 mod jump;
+pub mod laws;
 mod part;
-//mod reading;
+mod reading;
+#[cfg(test)]
+mod tests;
 
 pub use fault::HexFault;
-//pub use reading::read_hex;
+pub use reading::read_hex;
