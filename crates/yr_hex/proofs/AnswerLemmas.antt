@@ -1,12 +1,12 @@
 -- The answer to a text, from what is read of it.
-use Rattle.std.proofs.Common.{◌≡◌, ℕ, ◌+◌, ◌-◌, ◌<◌, ◌≤◌, ◌^◌, Bool, true, false, List, [], ◌∷◌, length, Option, Some, None, Result, Ok, Err, refl, sym, ap, subst, ◌∙◌, arith}
+use Rattle.std.proofs.Common.{◌≡◌, ℕ, ◌-◌, ◌<◌, ◌≤◌, true, false, [], ◌∷◌, length, Option, Some, None, Err, refl, sym, ap, subst, ◌∙◌, arith}
 use Rattle.yr_pattern.specs.Tree.{Tree}
 use Rattle.yr_hex.specs.declared.fault.HexFault.{HexFault}
 use Rattle.yr_hex.specs.declared.fault.HexFault.TheVariants.{HexSyntax, HexJump, NoMemory}
 use Rattle.yr_hex.specs.Gaps.{Text}
 use Rattle.yr_hex.specs.Items.{Items}
-use Rattle.yr_hex.specs.Grammar.{ReadsItems, SpellsHex}
-use Rattle.yr_hex.specs.Jumps.{HasBad, HasBadJump}
+use Rattle.yr_hex.specs.Grammar.{SpellsHex}
+use Rattle.yr_hex.specs.Jumps.{HasBadJump}
 use Rattle.yr_hex.specs.Meaning.{meaning}
 use Rattle.yr_hex.specs.Answers.{IsPattern, HasNoReading, IsFirstBadJump}
 use Rattle.yr_hex.specs.Reading.{Outcome, Yields, PartRead, sequence, pushed, no_members, read_list, group_at}

@@ -1,12 +1,12 @@
 -- The first jump that breaks a rule: the greatest number of bytes left.
-use Rattle.std.proofs.Common.{◌≡◌, ℕ, ◌+◌, ◌<◌, ◌≤◌, ◌^◌, ◌⊎◌, inl, inr, ⊎_elim, Bool, true, false, List, [], ◌∷◌, ◌++◌, length, Option, Some, None, if◌then◌else◌, refl, sym, ap, subst, ◌∙◌, arith}
-use Rattle.std.specs.Prelude.{◌&&◌, ◌||◌, not, nat_le, min, max}
-use Rattle.std.proofs.lemmas.Bool.{leb-true, le-leb, and_parts, and_from, or_cases, cases_lt}
+use Rattle.std.proofs.Common.{◌≡◌, ℕ, ◌<◌, ◌≤◌, ◌⊎◌, inl, inr, ⊎_elim, Bool, true, false, List, [], ◌∷◌, ◌++◌, Option, Some, None, refl, ap, subst, arith}
+use Rattle.std.specs.Prelude.{◌||◌, nat_le, max}
+use Rattle.std.proofs.lemmas.Bool.{leb-true, le-leb, and_parts, and_from, cases_lt}
 use Rattle.yr_pattern.specs.Tree.{Tree}
 use Rattle.yr_hex.specs.Items.{Item, Items, Branches, Byte, Jump, Group, last, more, only, or}
-use Rattle.yr_hex.specs.Jumps.{IsBounded, IsOrdered, IsAllowed, IsBad, HasBad, HasBadBranch}
-use Rattle.yr_hex.specs.Reading.{PartRead, ListRead, ChoiceRead, cut, capped, allows, first_of, jump_first, no_members, push, sequence, one_branch, add, choice, part, group_part, added, pushed}
-use Rattle.yr_hex.proofs.Basics.{by_test, bool_cases}
+use Rattle.yr_hex.specs.Jumps.{IsAllowed, IsBad, HasBad, HasBadBranch}
+use Rattle.yr_hex.specs.Reading.{ListRead, ChoiceRead, cut, capped, allows, first_of, jump_first, no_members, push, sequence, one_branch, add, part, group_part, added, pushed}
+use Rattle.yr_hex.proofs.Basics.{by_test}
 use Rattle.yr_hex.proofs.OutcomeLemmas.{some_is}
 
 -- ---- the numbers of a jump

@@ -1,13 +1,13 @@
 -- Bytes: what is read is what the grammar has.
-use Rattle.std.proofs.Common.{◌≡◌, ℕ, ◌+◌, ◌<◌, ◌≤◌, ◌⊎◌, inl, inr, ⊎_elim, Bool, true, false, List, [], ◌∷◌, length, Option, Some, None, if◌then◌else◌, refl, sym, ap, subst, ◌∙◌, arith}
+use Rattle.std.proofs.Common.{◌≡◌, ℕ, Bool, true, false, [], ◌∷◌, Option, Some, None, if◌then◌else◌, refl, sym, ap, subst, ◌∙◌}
 use Rattle.std.specs.Prelude.{◌&&◌}
 use Rattle.yr_hex.specs.Gaps.{Text}
-use Rattle.yr_hex.specs.Items.{Item, Byte}
+use Rattle.yr_hex.specs.Items.{Byte}
 use Rattle.yr_hex.specs.Grammar.{half, ReadsItem, byte, other}
 use Rattle.yr_hex.specs.Meaning.{class_of}
 use Rattle.yr_hex.specs.Reading.{Outcome, and_then, with_rest, sees, after, read_half, read_halves, read_byte, is_any}
-use Rattle.yr_hex.proofs.StepLemmas.{if_true, if_false, then-some}
-use Rattle.yr_hex.proofs.OutcomeLemmas.{bind-some, some_is, chosen, unless, after-true, after-false, sees-other}
+use Rattle.yr_hex.proofs.StepLemmas.{if_false, then-some}
+use Rattle.yr_hex.proofs.OutcomeLemmas.{bind-some, some_is, unless, after-true, after-false, sees-other}
 
 -- a byte that stands for half of a byte is no sign
 pub half-is_no : (h sign : ℕ) (high : Option ℕ) → half h ≡ Some high → half sign ≡ None → h ≡ sign → ⊥
@@ -74,10 +74,17 @@ halves-found negated t x e =
     let c = unless (negated && (is_any a.0.0 && is_any b.0.0)) (Some (class_of negated a.0.0 b.0.0, b.0.1)) x b.2 in
     let s = some_is (class_of negated a.0.0 b.0.0, b.0.1) x c.1 in
     let h = half-found t a.0 a.1 in
-    let l = half-found a.0.1 b.0 b.1 in
-    (h.0, l.0, a.0.0, b.0.0, h.2, l.2,
-    h.1 ∙ ap (λ (u : Text). h.0 ∷ u) l.1 ∙ ap (λ (y : (ℕ → Bool) × Text). h.0 ∷ l.0 ∷ y.1) s,
-    c.0, sym (ap (λ (y : (ℕ → Bool) × Text). y.0) s))
+    let l = half-found a.0.1 b.0 b.1 in (
+      h.0,
+      l.0,
+      a.0.0,
+      b.0.0,
+      h.2,
+      l.2,
+      h.1 ∙ ap (λ (u : Text). h.0 ∷ u) l.1 ∙ ap (λ (y : (ℕ → Bool) × Text). h.0 ∷ l.0 ∷ y.1) s,
+      c.0,
+      sym (ap (λ (y : (ℕ → Bool) × Text). y.0) s),
+    )
 
 -- a byte in front
 abbrev pub ByteFound : ℕ → Text → (ℕ → Bool) × Text → Type 0

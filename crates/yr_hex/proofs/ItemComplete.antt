@@ -1,13 +1,13 @@
 -- What the grammar has is read.
-use Rattle.std.proofs.Common.{◌≡◌, ℕ, zero, suc, ◌+◌, ◌<◌, ◌≤◌, Bool, true, false, List, [], ◌∷◌, length, Option, Some, None, if◌then◌else◌, refl, sym, ap, subst, ◌∙◌, arith}
-use Rattle.std.specs.Prelude.{◌==◌, ◌||◌}
+use Rattle.std.proofs.Common.{◌≡◌, ℕ, zero, suc, ◌<◌, ◌≤◌, Bool, true, false, ◌∷◌, length, Option, Some, if◌then◌else◌, refl, sym, ap, ◌∙◌, arith}
+use Rattle.std.specs.Prelude.{◌==◌}
 use Rattle.std.proofs.lemmas.Bool.{ne_eqb, or_from}
 use Rattle.yr_hex.specs.declared.jump.Numbers.{Numbers}
-use Rattle.yr_hex.specs.Gaps.{Text, Gap}
-use Rattle.yr_hex.specs.Items.{Item, Items, Branches, Byte, Jump, Group, last, more, only, or}
-use Rattle.yr_hex.specs.Grammar.{half, ReadsJump, ReadsItem, byte, other, jump, group, ReadsItems, last_item, item_then, ReadsBranches, last_branch, branch_then}
+use Rattle.yr_hex.specs.Gaps.{Text}
+use Rattle.yr_hex.specs.Items.{Item, Items, Branches}
+use Rattle.yr_hex.specs.Grammar.{half, ReadsItem, byte, other, jump, group, ReadsItems, last_item, item_then, ReadsBranches, last_branch, branch_then}
 use Rattle.yr_hex.specs.Meaning.{class_of}
-use Rattle.yr_hex.specs.Reading.{Outcome, and_then, sees, after, expect, past_gap, cut, capped, numbers, PartRead, ListRead, ChoiceRead, byte_part, jump_part, no_members, push, sequence, one_branch, add, choice, ends, read_numbers, read_jump, read_byte, read_one, read_item, items_from, read_list, branches_from, read_group, group_at, part, group_part, added, pushed}
+use Rattle.yr_hex.specs.Reading.{Outcome, sees, after, expect, past_gap, cut, capped, numbers, PartRead, ListRead, ChoiceRead, byte_part, jump_part, no_members, push, sequence, one_branch, add, choice, ends, read_numbers, read_jump, read_byte, read_one, read_item, items_from, read_list, branches_from, read_group, group_at, part, group_part, added, pushed}
 use Rattle.yr_hex.proofs.GapLemmas.{gap-read, gap-found, gap-shorter}
 use Rattle.yr_hex.proofs.StepLemmas.{if_true, if_false, then-some, items-end, items-next, branches-end, branches-next, group-end, group-next}
 use Rattle.yr_hex.proofs.OutcomeLemmas.{after-false, sees-other}

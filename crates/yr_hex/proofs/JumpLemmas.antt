@@ -1,12 +1,12 @@
 -- Jumps: what is read is what the grammar has, where each number goes through `cap` at each digit.
-use Rattle.std.proofs.Common.{◌≡◌, ℕ, ◌+◌, ◌*◌, ◌<◌, ◌≤◌, ◌⊎◌, inl, inr, ⊎_elim, Bool, true, false, List, [], ◌∷◌, length, Option, Some, None, if◌then◌else◌, refl, sym, ap, subst, ◌∙◌, arith}
+use Rattle.std.proofs.Common.{◌≡◌, ℕ, ◌+◌, ◌*◌, ◌<◌, ◌≤◌, ⊎_elim, ◌∷◌, length, Option, Some, None, if◌then◌else◌, refl, sym, ap, subst, ◌∙◌, arith}
 use Rattle.yr_hex.specs.declared.jump.Numbers.{Numbers}
 use Rattle.yr_hex.specs.Gaps.{Text, Gap, ends}
 use Rattle.yr_hex.specs.Grammar.{Number, ReadsJump, exactly, between, from, any}
-use Rattle.yr_hex.specs.Reading.{Outcome, and_then, sees, after, expect, past_gap, capped, numbers, read_number, read_close, read_last, read_next, read_first, read_numbers}
+use Rattle.yr_hex.specs.Reading.{and_then, sees, after, expect, past_gap, capped, numbers, read_number, read_close, read_last, read_next, read_first, read_numbers}
 use Rattle.yr_hex.proofs.GapLemmas.{gap-read, gap-found, gap-last, gap-trans, gap-shorter}
-use Rattle.yr_hex.proofs.StepLemmas.{if_true, if_false, then-some}
-use Rattle.yr_hex.proofs.OutcomeLemmas.{bind-some, some_is, chosen, after-true, after-false, sees-other, expect-some}
+use Rattle.yr_hex.proofs.StepLemmas.{if_false, then-some}
+use Rattle.yr_hex.proofs.OutcomeLemmas.{bind-some, some_is, chosen, after-true, after-false, expect-some}
 use Rattle.yr_hex.proofs.NumberLemmas.{number-read, number-found, number-begins, Number-shorter}
 
 -- a gap ends where no blank and no comment begins
@@ -41,7 +41,6 @@ abbrev pub JumpFound : (ℕ → ℕ) → Text → Numbers × Text → Type 0
 JumpFound cap t x = (least : ℕ) × (most : Option ℕ) × ReadsJump (91 ∷ t) least most x.1 × (x.0 ≡ numbers (cap least) (capped cap most))
 
 module _ (cap : ℕ → ℕ) (step : (n d : ℕ) → cap (10 * cap n + d) ≡ cap (10 * n + d)) (small : (n : ℕ) → n ≤ 9 → cap n ≡ n) where
-
   next-close : {t rest : Text} (least : ℕ) → Gap t (93 ∷ rest) → read_next cap least t ≡ Some (numbers least (Some least), rest)
   unfolding read_next sees after
   next-close least g =
@@ -123,8 +122,11 @@ module _ (cap : ℕ → ℕ) (step : (n d : ℕ) → cap (10 * cap n + d) ≡ ca
   pub jump-found : (t : Text) (x : Numbers × Text) → read_numbers cap t ≡ Some x → JumpFound cap t x
   unfolding read_numbers
   jump-found t x e = ⊎_elim
-      (λ c. let k = close-found 0 None (after 45 (past_gap t)) x c.1 in
-      (0, None, any (subst (λ (y : Text). Gap t y) (after-true 45 (past_gap t) c.0) (gap-found t)) k.0,
-      k.1 ∙ ap (λ (m : ℕ). numbers m None) (sym (small 0 (omega arith)))))
+      (λ c. let k = close-found 0 None (after 45 (past_gap t)) x c.1 in (
+        0,
+        None,
+        any (subst (λ (y : Text). Gap t y) (after-true 45 (past_gap t) c.0) (gap-found t)) k.0,
+        k.1 ∙ ap (λ (m : ℕ). numbers m None) (sym (small 0 (omega arith))),
+      ))
       (λ c. first-found t (after 45 (past_gap t)) (subst (λ (y : Text). Gap t y) (sym (after-false 45 (past_gap t) c.0)) (gap-found t)) x c.1)
       (chosen (sees 45 (past_gap t)) (read_close 0 None (after 45 (past_gap t))) (read_first cap (after 45 (past_gap t))) (Some x) e)

@@ -1,12 +1,12 @@
 -- The pattern that is read, where no jump breaks a rule.
-use Rattle.std.proofs.Common.{◌≡◌, ℕ, ◌⊎◌, inl, inr, Bool, true, false, List, [], ◌∷◌, ◌++◌, Option, Some, None, refl, sym, ap, subst, ◌∙◌}
+use Rattle.std.proofs.Common.{◌≡◌, ℕ, inl, inr, Bool, true, false, List, [], ◌∷◌, ◌++◌, Option, refl, ap, ◌∙◌}
 use Rattle.yr_pattern.specs.Set.{any_byte}
 use Rattle.yr_pattern.specs.Tree.{Tree, Trees, One, Seq, Alt, Rep, none, join, trees_of}
 use Rattle.yr_pattern.specs.Tree as tree
 use Rattle.yr_hex.specs.Items.{Item, Items, Branches, Byte, Jump, Group, last, more, only, or}
 use Rattle.yr_hex.specs.Jumps.{IsBad, HasBad, HasBadBranch}
 use Rattle.yr_hex.specs.Meaning.{item_tree, group_tree, branches_of, members_of, meaning}
-use Rattle.yr_hex.specs.Reading.{PartRead, ListRead, ChoiceRead, cut, capped, allows, no_members, push, sequence, one_branch, add, choice, part, group_part, added, pushed}
+use Rattle.yr_hex.specs.Reading.{ListRead, ChoiceRead, cut, capped, allows, no_members, push, sequence, one_branch, add, part, group_part, added, pushed}
 use Rattle.yr_hex.proofs.Basics.{bool_cases}
 use Rattle.yr_hex.proofs.BadLemmas.{allows-true, allows-false}
 

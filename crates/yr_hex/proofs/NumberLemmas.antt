@@ -1,11 +1,11 @@
 -- Numbers: what is read is what the grammar has, where each number goes through `cap` at each digit.
-use Rattle.std.proofs.Common.{◌≡◌, ℕ, ◌+◌, ◌-◌, ◌*◌, ◌<◌, ◌≤◌, ◌^◌, Bool, true, false, List, [], ◌∷◌, length, Option, Some, None, if◌then◌else◌, refl, sym, ap, subst, ◌∙◌, arith}
-use Rattle.std.specs.Prelude.{◌==◌, ◌&&◌, nat_le, min}
-use Rattle.std.proofs.lemmas.Bool.{leb-true, and_parts, eqb-true, ne_eqb}
+use Rattle.std.proofs.Common.{◌≡◌, ℕ, ◌+◌, ◌-◌, ◌*◌, ◌<◌, ◌≤◌, true, false, [], ◌∷◌, length, Some, refl, sym, ap, subst, ◌∙◌, arith}
+use Rattle.std.specs.Prelude.{nat_le}
+use Rattle.std.proofs.lemmas.Bool.{leb-true, and_parts, ne_eqb}
 use Rattle.yr_base.specs.Bytes.{is_digit}
 use Rattle.yr_hex.specs.Gaps.{Text}
 use Rattle.yr_hex.specs.Grammar.{begins_digit, Digits, end, digit, Number, number}
-use Rattle.yr_hex.specs.Reading.{Outcome, cut, past_digits, read_number, sees}
+use Rattle.yr_hex.specs.Reading.{cut, past_digits, read_number, sees}
 use Rattle.yr_hex.proofs.Basics.{bool_cases}
 use Rattle.yr_hex.proofs.StepLemmas.{if_true, if_false}
 use Rattle.yr_hex.proofs.OutcomeLemmas.{guarded, some_is}

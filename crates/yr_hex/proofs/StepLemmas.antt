@@ -1,5 +1,5 @@
 -- One step of reading items and branches.
-use Rattle.std.proofs.Common.{◌≡◌, ℕ, zero, suc, ◌+◌, ◌-◌, ◌<◌, ◌≤◌, Bool, true, false, length, Option, Some, None, Result, Ok, Err, if◌then◌else◌, refl, sym, ap, ◌∙◌, arith}
+use Rattle.std.proofs.Common.{◌≡◌, ℕ, suc, ◌+◌, ◌-◌, ◌<◌, ◌≤◌, Bool, true, false, length, Some, None, Err, if◌then◌else◌, refl, sym, ap, ◌∙◌, arith}
 use Rattle.yr_hex.specs.declared.fault.HexFault.{HexFault}
 use Rattle.yr_hex.specs.declared.fault.HexFault.TheVariants.{HexSyntax, HexJump, NoMemory}
 use Rattle.yr_hex.specs.Gaps.{Text}
@@ -42,7 +42,6 @@ if_false true x y e = absurd cc
 -- ---- items
 
 module _ (inside : Bool) (group : Text → Outcome PartRead) (n : ℕ) (l : ListRead) (t : Text) where
-
   abbrev pub rest_of : PartRead → Text → Outcome PartRead
   rest_of p u = if ends (past_gap u) then Some (sequence (push l p), past_gap u) else items_from inside group n (push l p) (past_gap u)
 
@@ -65,7 +64,6 @@ module _ (inside : Bool) (group : Text → Outcome PartRead) (n : ℕ) (l : List
 -- ---- branches
 
 module _ (group : Text → Outcome PartRead) (n : ℕ) (c : ChoiceRead) (t : Text) where
-
   abbrev pub after_branch : PartRead → Text → Outcome PartRead
   after_branch p v = if sees 41 v then Some (choice (add c p), after 41 v) else branches_from group n (add c p) (after 41 v)
 
@@ -93,7 +91,6 @@ module _ (group : Text → Outcome PartRead) (n : ℕ) (c : ChoiceRead) (t : Tex
       ∙ if_false (sees 41 v) (Some (choice (add c p), after 41 v)) (branches_from group n (add c p) (after 41 v)) h
 
 module _ (group : Text → Outcome PartRead) (t : Text) where
-
   abbrev pub after_first : PartRead → Text → Outcome PartRead
   after_first p u = if sees 41 u then Some (p, after 41 u) else branches_from group (length (after 41 u)) (one_branch p) (after 41 u)
 

@@ -1,5 +1,5 @@
 -- A text has one reading, and a bad jump stands in the text.
-use Rattle.std.proofs.Common.{◌≡◌, ℕ, zero, suc, ◌+◌, ◌*◌, ◌<◌, ◌≤◌, ◌⊎◌, inl, inr, Bool, true, false, List, [], ◌∷◌, length, Option, Some, None, refl, sym, ap, subst, ◌∙◌, arith}
+use Rattle.std.proofs.Common.{◌≡◌, ℕ, ◌≤◌, inl, inr, Bool, true, false, ◌∷◌, length, Option, Some, None, refl, sym, ap, subst, ◌∙◌, arith}
 use Rattle.yr_hex.specs.declared.jump.Numbers.{Numbers}
 use Rattle.yr_hex.specs.Gaps.{Text, Gap}
 use Rattle.yr_hex.specs.Items.{Item, Items, Branches, Byte, Jump, Group, last, more, only, or}
@@ -10,7 +10,7 @@ use Rattle.yr_hex.proofs.GapLemmas.{gap-read, gap-one, gap-shorter}
 use Rattle.yr_hex.proofs.JumpLemmas.{jump-read}
 use Rattle.yr_hex.proofs.ByteLemmas.{half-is_no}
 use Rattle.yr_hex.proofs.OutcomeLemmas.{some_is}
-use Rattle.yr_hex.proofs.ItemComplete.{ReadsItem-shorter, ReadsItems-shorter, ReadsBranches-shorter, items-begin}
+use Rattle.yr_hex.proofs.ItemComplete.{ReadsItem-shorter, ReadsItems-shorter, items-begin}
 
 -- ---- a bad jump stands in the text
 

@@ -31,4 +31,3 @@ pub data Piece : Text → Text → Type 0 where
 pub data Gap : Text → Text → Type 0 where
   ends : {t : Text} → ((rest : Text) → ¬ Piece t rest) → Gap t t
   piece : {t more rest : Text} → Piece t more → Gap more rest → Gap t rest
-

@@ -1,5 +1,5 @@
 -- The grammar of hex strings ('Writing YARA rules', Hexadecimal strings). Each relation says that something stands at the front of a text, and what follows it.
-use Rattle.std.specs.Prelude.{◌≡◌, ◌≢◌, ℕ, zero, suc, ◌+◌, ◌-◌, ◌*◌, Bool, true, false, ◌&&◌, ◌==◌, nat_le, if◌then◌else◌, List, [], ◌∷◌, length, Option, Some, None}
+use Rattle.std.specs.Prelude.{◌≡◌, ℕ, suc, ◌+◌, ◌-◌, ◌*◌, Bool, true, false, ◌&&◌, ◌==◌, nat_le, if◌then◌else◌, [], ◌∷◌, length, Option, Some, None}
 use Rattle.yr_base.specs.Bytes.{is_digit}
 use Rattle.yr_hex.specs.Gaps.{Text, Gap}
 use Rattle.yr_hex.specs.Items.{Item, Items, Branches, Byte, Jump, Group, last, more, only, or}

@@ -1,7 +1,7 @@
 -- The pattern of a hex string.
 use Rattle.std.specs.Prelude.{ℕ, ◌/◌, ◌%◌, Bool, true, false, ◌&&◌, ◌==◌, nat_lt, Option, Some, None}
 use Rattle.yr_pattern.specs.Set.{all_but, any_byte}
-use Rattle.yr_pattern.specs.Tree.{Tree, Trees, One, Seq, Alt, Rep, none} 
+use Rattle.yr_pattern.specs.Tree.{Tree, Trees, One, Seq, Alt, Rep, none}
 use Rattle.yr_pattern.specs.Tree as tree
 use Rattle.yr_hex.specs.Items.{Item, Items, Branches, Byte, Jump, Group, last, more, only, or}
 

@@ -80,4 +80,3 @@ pub fn past_gap(text: &[u8]) -> &[u8]
     }
     rest
 }
-

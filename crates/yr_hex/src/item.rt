@@ -22,12 +22,7 @@ fn one(text: &mut Cursor<'_>) -> Result<Part, HexFault>
 
 /// After the `[` of a jump with so many bytes left at it.
 #[tactic(auto, unfolding(crate::specs::Reading::read_jump))]
-fn jump(
-    alloc: Global,
-    text: &mut Cursor<'_>,
-    inside: bool,
-    left: usize,
-) -> Result<Part, HexFault>
+fn jump(alloc: Global, text: &mut Cursor<'_>, inside: bool, left: usize) -> Result<Part, HexFault>
     ensures { Yields part_of (spec.read_jump inside left text.old) result text.new }
 {
     let numbers = read_numbers(text)?;
@@ -76,12 +71,7 @@ pub fn list(
 
 /// Branches up to a `)`, at the `|` behind the first.
 #[cycle(hex)]
-fn branches(
-    alloc: Global,
-    text: &mut Cursor<'_>,
-    depth: u32,
-    first: Part,
-) -> Result<Part, HexFault>
+fn branches(alloc: Global, text: &mut Cursor<'_>, depth: u32, first: Part) -> Result<Part, HexFault>
     ensures { Yields part_of
         (spec.branches_from (spec.group_at depth) (length text.old) (spec.one_branch (part_of first)) text.old)
         result text.new }

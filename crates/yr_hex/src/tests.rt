@@ -54,8 +54,11 @@ fn reads_halves(alloc: Global) -> Result<bool, HexFault> {
     for low in 0..16u8 {
         small = small.with(low);
     }
-    let wanted =
-        Pattern::Seq(vec![in alloc; byte(0xab), jump(alloc, 0, None)?, Pattern::One(small)]?);
+    let wanted = Pattern::Seq(vec![in alloc;
+        byte(0xab),
+        jump(alloc, 0, None)?,
+        Pattern::One(small),
+    ]?);
     Ok(read_hex(alloc, b"aB[-]0?")? == wanted)
 }
 

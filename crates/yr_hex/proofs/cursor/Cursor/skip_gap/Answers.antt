@@ -1,4 +1,3 @@
-use Rattle.std.proofs.Common.{◌≡◌}
 use Rattle.yr_hex.proofs.GapLemmas.{gap-read}
 use Rattle.yr_hex.proofs.cursor.Cursor.skip_gap.Goals as goal
 
