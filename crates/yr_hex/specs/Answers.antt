@@ -18,7 +18,7 @@ pub record IsPattern (t : Text) (tree : Tree) : Type 0 where
 abbrev pub HasNoReading : Text → Type 0
 HasNoReading t = (items : Items) → ¬ SpellsHex t items
 
--- the text has a reading, and at the place stands the `[` of the first jump that breaks a rule
+-- the text has a reading, and at the place stands the `[` of the first jump that breaks a rule: what stands first has the most bytes left
 pub record IsFirstBadJump (t : Text) (place : ℕ) : Type 0 where
   pub items : Items
   pub left : ℕ
