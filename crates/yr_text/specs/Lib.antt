@@ -1,0 +1,3 @@
+pub mod Names
+pub mod Arguments
+pub mod Checked
