@@ -59,16 +59,16 @@ encodings-sound None wide forms = All-nil IsSound
 encodings-sound (Some alphabet) wide forms =
     All-flat_map (λ form. Unit {0}) IsSound (alignments alphabet wide) forms
     (λ form h. All-append IsSound (aligned alphabet wide form 0 ++ aligned alphabet wide form 1) (aligned alphabet wide form 2)
-      (All-append IsSound (aligned alphabet wide form 0) (aligned alphabet wide form 1)
-        (unless_empty-sound (spread wide (encoded alphabet form.bytes 0)) form.border)
-        (unless_empty-sound (spread wide (encoded alphabet form.bytes 1)) form.border))
-      (unless_empty-sound (spread wide (encoded alphabet form.bytes 2)) form.border))
+    (All-append IsSound (aligned alphabet wide form 0) (aligned alphabet wide form 1)
+    (unless_empty-sound (spread wide (encoded alphabet form.bytes 0)) form.border)
+    (unless_empty-sound (spread wide (encoded alphabet form.bytes 1)) form.border))
+    (unless_empty-sound (spread wide (encoded alphabet form.bytes 2)) form.border))
     (λ k d h. tt)
 
 literals-sound : (m : Modifiers) (forms : List PlainForm) → All HasByte forms → All IsSound (literals m forms)
 literals-sound m forms h =
     elim (is_some m.base64 || is_some m.base64wide) as (λ b. All IsSound (if b then [] else flat_map (literals_of m.xor m.nocase) forms)) [
-        true ↦ All-nil IsSound
+      | true ↦ All-nil IsSound
       | false ↦ All-flat_map HasByte IsSound (literals_of m.xor m.nocase) forms (literals_of-sound m.xor m.nocase) h
     ]
 
@@ -76,5 +76,5 @@ pub variants-sound : (bytes : List ℕ) (m : Modifiers) → 0 < length bytes →
 variants-sound bytes m h =
     All-append IsSound (literals m (forms_of bytes m) ++ encodings m.base64 false (forms_of bytes m)) (encodings m.base64wide true (forms_of bytes m))
     (All-append IsSound (literals m (forms_of bytes m)) (encodings m.base64 false (forms_of bytes m))
-      (literals-sound m (forms_of bytes m) (forms-byte bytes m h)) (encodings-sound m.base64 false (forms_of bytes m)))
+    (literals-sound m (forms_of bytes m) (forms-byte bytes m h)) (encodings-sound m.base64 false (forms_of bytes m)))
     (encodings-sound m.base64wide true (forms_of bytes m))

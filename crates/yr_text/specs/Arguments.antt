@@ -1,5 +1,6 @@
 -- The arguments of modifiers: the keys of `xor`, the alphabets of `base64` and `base64wide` (RFC 4648, section 4).
 use Rattle.std.specs.Prelude.{ℕ, ℤ, pos, negsuc, Bool, true, false, ◌==◌, nat_lt, nat_le, if◌then◌else◌, List, [], ◌∷◌, length, codes, Option, Some, None}
+use Rattle.std.specs.Option.{option_or}
 use Rattle.yr_syntax.specs.Declaration.{ModifierTree, NoCase, Wide, Ascii, FullWord, Hidden, Xor, Base64, Base64Wide}
 
 -- a number as a byte, where it is one
@@ -55,25 +56,20 @@ wide_alphabet_of (Xor low high) = None
 wide_alphabet_of (Base64 alphabet) = None
 wide_alphabet_of (Base64Wide alphabet) = Some (alphabet_meant alphabet)
 
--- the first argument, or what the others give
-abbrev pub or_else : {A : Type 0} → Option A → Option A → Option A
-or_else None others = others
-or_else (Some x) others = Some x
-
 -- the keys of the first `xor` in a list
 abbrev pub keys_in : List ModifierTree → Option (Option (ℕ × ℕ))
 keys_in [] = None
-keys_in (m ∷ ms) = or_else (keys_of m) (keys_in ms)
+keys_in (m ∷ ms) = option_or (keys_of m) (keys_in ms)
 
 -- the alphabet of the first `base64` in a list
 abbrev pub alphabet_in : List ModifierTree → Option (Option (List ℕ))
 alphabet_in [] = None
-alphabet_in (m ∷ ms) = or_else (alphabet_of m) (alphabet_in ms)
+alphabet_in (m ∷ ms) = option_or (alphabet_of m) (alphabet_in ms)
 
 -- the alphabet of the first `base64wide` in a list
 abbrev pub wide_alphabet_in : List ModifierTree → Option (Option (List ℕ))
 wide_alphabet_in [] = None
-wide_alphabet_in (m ∷ ms) = or_else (wide_alphabet_of m) (wide_alphabet_in ms)
+wide_alphabet_in (m ∷ ms) = option_or (wide_alphabet_of m) (wide_alphabet_in ms)
 
 -- an argument stands there and is wrong
 abbrev pub is_wrong : {A : Type 0} → Option (Option A) → Bool

@@ -95,11 +95,7 @@ pub fn push_literals(
     push_all_literals(alloc, all, forms, modifiers)
 }
 
-fn push_unless_empty(
-    all: &mut Vec<Variant>,
-    text: Vec<u8>,
-    border: Border,
-) -> Result<(), NoMemory>
+fn push_unless_empty(all: &mut Vec<Variant>, text: Vec<u8>, border: Border) -> Result<(), NoMemory>
     ensures { OnOk result (map variant_of all.new.items
         ≡ map variant_of all.old.items ++ unless_empty text.items border) }
 {

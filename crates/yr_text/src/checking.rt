@@ -8,7 +8,7 @@ ghost use Rattle.yr_text.specs.Checked.{foreign_names, has_excluded, said_by, ch
 
 use crate::alphabet::{first_alphabet, first_wide_alphabet};
 use crate::fault::ModifierFault;
-use crate::lookup::first_keys;
+use crate::keys::first_keys;
 use crate::modifiers::Modifiers;
 use crate::name::{NAMES, Name, count, has_some, repeats_some};
 use yr_syntax::{Modifier, StringKind};

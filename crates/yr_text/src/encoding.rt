@@ -53,12 +53,7 @@ fn push_letter(
 }
 
 /// The letters of a text that stands after `p` unknown bytes, as far as they are known.
-pub fn encode(
-    alloc: Global,
-    alphabet: &[u8; 64],
-    bytes: &[u8],
-    p: u8,
-) -> Result<Vec<u8>, NoMemory>
+pub fn encode(alloc: Global, alphabet: &[u8; 64], bytes: &[u8], p: u8) -> Result<Vec<u8>, NoMemory>
     ensures { IfOk result (λ text. text.items ≡ encoded alphabet.now bytes.now p) }
 {
     let groups = (8 * p as u128 + 8 * bytes.len() as u128) / 6;

@@ -7,9 +7,12 @@ mod checking;
 mod encoding;
 mod fault;
 mod form;
-mod lookup;
+mod keys;
+pub mod laws;
 mod modifiers;
 mod name;
+#[cfg(test)]
+mod tests;
 mod variants_of_text;
 
 pub use checking::check_modifiers;

@@ -25,11 +25,7 @@ pub fn variants(
     Ok(all)
 }
 
-fn collect(
-    alloc: Global,
-    bytes: &[u8],
-    modifiers: &Modifiers,
-) -> Result<Vec<Variant>, NoMemory>
+fn collect(alloc: Global, bytes: &[u8], modifiers: &Modifiers) -> Result<Vec<Variant>, NoMemory>
     ensures { IfOk result (λ all. map variant_of all.items ≡ variants_of bytes.now modifiers.now) }
 {
     let forms = forms(alloc, bytes, modifiers)?;

@@ -12,11 +12,11 @@ loop-key-preserved c =
     record {
       within = omega (arith, c.loop-key.invariant.within, c.loop-key-test.true);
       so_far =
-        c.in_ok-push_literal.ensures
-        ∙ ap (λ b. map variant_of c.loop-key.all.items ++ literal b c.loop-key.key false c.args.form.now.border ∷ []) (c.in_ok-bytes.ensures ∙ c.deref.ensures.value)
-        ∙ ap (λ l. l ++ keyed (form_of c.args.form.now) c.loop-key.key ∷ []) c.loop-key.invariant.so_far
-        ∙ append_assoc (map variant_of c.args.all.now.items) (map (keyed (form_of c.args.form.now)) (range_with_len c.args.low (c.loop-key.key - c.args.low))) (keyed (form_of c.args.form.now) c.loop-key.key ∷ [])
-        ∙ ap (λ l. map variant_of c.args.all.now.items ++ l) (sym (map-range (keyed (form_of c.args.form.now)) c.args.low c.loop-key.key from_low));
+          c.in_ok-push_literal.ensures
+          ∙ ap (λ b. map variant_of c.loop-key.all.items ++ literal b c.loop-key.key false c.args.form.now.border ∷ []) (c.in_ok-bytes.ensures ∙ c.deref.ensures.value)
+          ∙ ap (λ l. l ++ keyed (form_of c.args.form.now) c.loop-key.key ∷ []) c.loop-key.invariant.so_far
+          ∙ append_assoc (map variant_of c.args.all.now.items) (map (keyed (form_of c.args.form.now)) (range_with_len c.args.low (c.loop-key.key - c.args.low))) (keyed (form_of c.args.form.now) c.loop-key.key ∷ [])
+          ∙ ap (λ l. map variant_of c.args.all.now.items ++ l) (sym (map-range (keyed (form_of c.args.form.now)) c.args.low c.loop-key.key from_low));
     }
 
 pub returns : goal.returns

@@ -1,4 +1,4 @@
-//! The arguments of modifiers.
+//! The keys of `xor`.
 
 ghost use Rattle.std.specs.Prelude.{◌≡◌, map, option_map};
 ghost use Rattle.yr_syntax.specs.Declaration.{bytes_of, modifier_of};
