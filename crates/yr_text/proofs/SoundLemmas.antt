@@ -1,15 +1,14 @@
 -- Each variant of a text that has a byte is sound.
-use Rattle.std.proofs.Common.{◌≡◌, ℕ, ◌<◌, ◌+◌, ◌-◌, Bool, true, false, List, [], ◌∷◌, ◌++◌, length, map, refl, arith, suc}
+use Rattle.std.proofs.Common.{◌≡◌, ℕ, ◌<◌, ◌+◌, ◌-◌, Bool, true, false, List, [], ◌∷◌, ◌++◌, length, refl, arith, suc}
 use Rattle.std.specs.Prelude.{◌||◌, not, nat_lt, is_some, Option, Some, None, if◌then◌else◌}
 use Rattle.std.specs.List.{All, flat_map, range_with_len}
 use Rattle.std.proofs.lemmas.Bool.{ltb-true}
 use Rattle.std.proofs.lemmas.List.Elements.{All-nil, All-cons, All-append, All-map}
 use Rattle.yr_base.specs.declared.border.Border.{Border}
-use Rattle.yr_pattern.specs.Variants.{PlainVariant}
 use Rattle.yr_text.specs.declared.modifiers.Modifiers.{Modifiers}
-use Rattle.yr_text.specs.Forms.{PlainForm, with_zero, widened, plain_border, wide_border, plain_form, wide_form, forms_of}
+use Rattle.yr_text.specs.Forms.{PlainForm, widened, plain_border, wide_border, plain_form, wide_form, forms_of}
 use Rattle.yr_text.specs.Encoding.{encoded}
-use Rattle.yr_text.specs.Variants.{keyed, under_keys, literal, literals_of, literals, unless_empty, spread, aligned, alignments, encodings, variants_of, IsSound}
+use Rattle.yr_text.specs.Variants.{keyed, literal, literals_of, literals, unless_empty, spread, aligned, alignments, encodings, variants_of, IsSound}
 
 -- a form that has a byte
 abbrev pub HasByte : PlainForm → Type 0

@@ -1,5 +1,5 @@
 -- The forms of a text string ('Writing YARA rules', 'Wide-character strings', 'Searching for full words').
-use Rattle.std.specs.Prelude.{ℕ, Bool, not, ◌||◌, if◌then◌else◌, List, [], ◌∷◌, ◌++◌}
+use Rattle.std.specs.Prelude.{ℕ, not, ◌||◌, if◌then◌else◌, List, [], ◌∷◌, ◌++◌}
 use Rattle.std.specs.List.{flat_map}
 use Rattle.yr_base.specs.declared.border.Border.{Border}
 use Rattle.yr_base.specs.declared.border.Border.TheVariants as border

@@ -53,7 +53,8 @@ fn push_literals_of(
     modifiers: &Modifiers,
 ) -> Result<(), NoMemory>
     ensures { OnOk result (map variant_of all.new.items
-        ≡ map variant_of all.old.items ++ literals_of modifiers.now.xor modifiers.now.nocase (form_of form.now)) }
+        ≡ map variant_of all.old.items
+        ++ literals_of modifiers.now.xor modifiers.now.nocase (form_of form.now)) }
 {
     match modifiers.xor {
         Some((low, high)) => push_keys(alloc, all, form, low, high),
@@ -71,7 +72,8 @@ fn push_all_literals(
     modifiers: &Modifiers,
 ) -> Result<(), NoMemory>
     ensures { OnOk result (map variant_of all.new.items
-        ≡ map variant_of all.old.items ++ flat_map (literals_of modifiers.now.xor modifiers.now.nocase) (map form_of forms.now)) }
+        ≡ map variant_of all.old.items
+        ++ flat_map (literals_of modifiers.now.xor modifiers.now.nocase) (map form_of forms.now)) }
 {
     for form in forms {
         push_literals_of(alloc, all, form, modifiers)?;
@@ -154,7 +156,8 @@ fn push_all_alignments(
     forms: &[Form],
 ) -> Result<(), NoMemory>
     ensures { OnOk result (map variant_of all.new.items
-        ≡ map variant_of all.old.items ++ flat_map (alignments alphabet.now wide) (map form_of forms.now)) }
+        ≡ map variant_of all.old.items
+        ++ flat_map (alignments alphabet.now wide) (map form_of forms.now)) }
 {
     for form in forms {
         push_alignments(alloc, all, alphabet, wide, form)?;

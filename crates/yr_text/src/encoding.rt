@@ -41,7 +41,8 @@ fn push_letter(
 ) -> Result<(), NoMemory>
     requires inside { 6 * k + 6 ≤ 8 * p + 8 * length bytes.now }
     requires small { k < 2 ^ 100 }
-    ensures { OnOk result (text.new.items ≡ text.old.items ++ group_letter alphabet.now bytes.now p k) }
+    ensures { OnOk result (text.new.items
+        ≡ text.old.items ++ group_letter alphabet.now bytes.now p k) }
 {
     let unknown = 8 * p as u128;
     if 6 * k < unknown {

@@ -60,7 +60,8 @@ fn push_plain(
     bytes: &[u8],
     modifiers: &Modifiers,
 ) -> Result<(), NoMemory>
-    ensures { OnOk result (map form_of all.new.items ≡ map form_of all.old.items ++ plain_form bytes.now modifiers.now) }
+    ensures { OnOk result (map form_of all.new.items
+        ≡ map form_of all.old.items ++ plain_form bytes.now modifiers.now) }
 {
     if modifiers.wide && !modifiers.ascii {
         return Ok(());
@@ -77,7 +78,8 @@ fn push_wide(
     bytes: &[u8],
     modifiers: &Modifiers,
 ) -> Result<(), NoMemory>
-    ensures { OnOk result (map form_of all.new.items ≡ map form_of all.old.items ++ wide_form bytes.now modifiers.now) }
+    ensures { OnOk result (map form_of all.new.items
+        ≡ map form_of all.old.items ++ wide_form bytes.now modifiers.now) }
 {
     if !modifiers.wide {
         return Ok(());

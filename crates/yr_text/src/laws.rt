@@ -4,7 +4,7 @@ ghost use Rattle.std.specs.Prelude.{◌≡◌, ℕ, ◌+◌, ◌*◌, ◌/◌, �
 ghost use Rattle.yr_text.specs.Arguments.{usual_alphabet};
 ghost use Rattle.yr_text.specs.Encoding.{encoded};
 
-/// A group of six bits ends within a text of m bytes after p others exactly where it is one of the whole groups.
+/// Group k ends within a text of m bytes after p others exactly where it is one of the whole groups.
 pub fn whole_groups_end_in_text()
     ensures { (p m k : ℕ) → (k < (8 * p + 8 * m) / 6) ↔ (6 * k + 6 ≤ 8 * p + 8 * m) }
 {}

@@ -11,14 +11,16 @@ use std::alloc::Global;
 use yr_base::NoMemory;
 use yr_pattern::Variant;
 
-/// The variants of a text string: its forms as they are, under each key, or in base64.
+/// The variants of a text string: its forms as they are, under each key, or in base64. Where `check_modifiers`
+/// lets base64 stand, `xor`, `nocase` and `fullword` do not stand beside it.
 pub fn variants(
     alloc: Global,
     bytes: &[u8],
     modifiers: &Modifiers,
 ) -> Result<Vec<Variant>, NoMemory>
     requires { 0 < length bytes.now }
-    ensures variants { IfOk result (λ all. map variant_of all.items ≡ variants_of bytes.now modifiers.now) }
+    ensures variants { IfOk result (λ all.
+        map variant_of all.items ≡ variants_of bytes.now modifiers.now) }
     ensures wellformed { IfOk result (λ all. All IsSound (map variant_of all.items)) }
 {
     let all = collect(alloc, bytes, modifiers)?;
