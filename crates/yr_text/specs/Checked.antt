@@ -1,5 +1,5 @@
 -- The faults of a list of modifiers, in their order, and what a list without faults says.
-use Rattle.std.specs.Prelude.{Bool, ◌||◌, ◌&&◌, if◌then◌else◌, List, [], ◌∷◌, Result, Ok, Err}
+use Rattle.std.specs.Prelude.{ℕ, ◌≡◌, ◌≤◌, Bool, true, false, ◌||◌, ◌&&◌, if◌then◌else◌, List, [], ◌∷◌, Some, None, is_some, Result, Ok, Err}
 use Rattle.yr_syntax.specs.declared.modifier.StringKind.{StringKind}
 use Rattle.yr_syntax.specs.declared.modifier.StringKind.TheVariants as kind
 use Rattle.yr_syntax.specs.Declaration.{ModifierTree}
@@ -53,3 +53,9 @@ checked modifiers string_kind =
     else if is_wrong (keys_in modifiers) then Err fault.BadRange
     else if is_wrong (alphabet_in modifiers) || is_wrong (wide_alphabet_in modifiers) then Err fault.BadAlphabet
     else Ok (said_by modifiers)
+
+-- modifiers that may stand together: `xor` beside no `nocase` and no base64, a base64 beside no `nocase` and no `fullword`; keys rise
+pub record Agree (m : Modifiers) : Type 0 where
+  pub xor_alone : is_some m.xor ≡ true → (m.nocase ≡ false) × (m.base64 ≡ None) × (m.base64wide ≡ None)
+  pub base64_alone : (is_some m.base64 || is_some m.base64wide) ≡ true → (m.nocase ≡ false) × (m.full ≡ false)
+  pub rising : (low high : ℕ) → m.xor ≡ Some (low, high) → low ≤ high

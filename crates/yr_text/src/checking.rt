@@ -1,10 +1,10 @@
 //! The check of the modifiers of a string.
 
-ghost use Rattle.std.specs.Prelude.{◌≡◌, map};
+ghost use Rattle.std.specs.Prelude.{◌≡◌, map, IfOk};
 ghost use Rattle.yr_syntax.specs.Declaration.{modifier_of};
 ghost use Rattle.yr_text.specs.Names.{stands, stands_some};
 ghost use Rattle.yr_text.specs.Arguments.{is_wrong, right_one};
-ghost use Rattle.yr_text.specs.Checked.{foreign_names, has_excluded, said_by, checked};
+ghost use Rattle.yr_text.specs.Checked.{foreign_names, has_excluded, said_by, checked, Agree};
 
 use crate::alphabet::{first_alphabet, first_wide_alphabet};
 use crate::fault::ModifierFault;
@@ -15,6 +15,13 @@ use yr_syntax::{Modifier, StringKind};
 
 /// The modifiers of a string as they stand, or their first fault.
 pub fn check_modifiers(list: &[Modifier], kind: StringKind) -> Result<Modifiers, ModifierFault>
+    ensures answer { result ≡ checked (map modifier_of list.now) kind }
+    ensures agree { IfOk result Agree }
+{
+    first_fault_or_said(list, kind)
+}
+
+fn first_fault_or_said(list: &[Modifier], kind: StringKind) -> Result<Modifiers, ModifierFault>
     ensures { result ≡ checked (map modifier_of list.now) kind }
 {
     if repeats_some(list, &NAMES) {
