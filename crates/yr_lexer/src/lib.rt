@@ -1,0 +1,26 @@
+//! Rule files as tokens: the tokens of one text, and those of a file with all that it includes.
+#![tactic(auto)]
+
+mod fault;
+mod gap;
+mod hex;
+mod laws;
+mod lexing;
+mod number;
+mod reserved;
+mod scan;
+mod sign;
+mod source;
+#[cfg(test)]
+mod tests;
+mod text;
+mod token;
+mod tokens;
+
+pub use fault::{GatherFault, LexFault};
+pub use laws::{one_answer, one_meaning};
+pub use lexing::lex;
+pub use source::{FileToken, SourceFile};
+pub use text::unescape;
+pub use token::{Token, TokenKind};
+pub use tokens::Tokens;
