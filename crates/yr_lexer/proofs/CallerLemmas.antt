@@ -1,5 +1,5 @@
 -- What callers of `lex` use of its tokens.
-use Rattle.std.proofs.Common.{◌≡◌, ◌≢◌, ℕ, ◌+◌, ◌-◌, ◌<◌, ◌≤◌, Bool, true, false, List, [], ◌∷◌, ◌++◌, length, take, drop, Result, Ok, Err, refl, sym, ap, subst, ◌∙◌, ◌⊎◌, inl, inr, arith, length-append, append_assoc}
+use Rattle.std.proofs.Common.{◌≡◌, ℕ, ◌-◌, ◌<◌, ◌≤◌, Bool, true, List, [], ◌∷◌, ◌++◌, length, take, drop, Result, Ok, Err, refl, sym, ap, subst, ◌∙◌, inl, inr, arith, length-append, append_assoc}
 use Rattle.std.specs.Prelude.{All, slice_range}
 use Rattle.std.proofs.lemmas.List.Elements.{All-nil, All-cons}
 use Rattle.yr_base.specs.Words.{name_limit}
@@ -8,11 +8,10 @@ use Rattle.yr_lexer.specs.declared.token.TokenKind.TheVariants as kind
 use Rattle.yr_lexer.specs.declared.token.Token.{Token}
 use Rattle.yr_lexer.specs.declared.fault.LexFault.{LexFault}
 use Rattle.yr_lexer.specs.declared.fault.FaultRow.TheVariants as row
-use Rattle.yr_lexer.specs.Gaps.{Text, Gap, before}
-use Rattle.yr_lexer.specs.Texts.{Unescapes}
+use Rattle.yr_lexer.specs.Gaps.{Text}
 use Rattle.yr_lexer.specs.Forms.{HasForm, HasGoodEscapes, IsSpelled, name_length}
-use Rattle.yr_lexer.specs.Faults.{Fits, Longest, IsFault, IsBadEscape}
-use Rattle.yr_lexer.specs.Tokens.{IsToken, token_at, with_token, is_equals, LexesFrom, Lexes, nothing, refused, token}
+use Rattle.yr_lexer.specs.Faults.{IsBadEscape}
+use Rattle.yr_lexer.specs.Tokens.{IsToken, token_at, with_token, LexesFrom, Lexes, nothing, refused, token}
 use Rattle.yr_lexer.specs.Sources.{LiesIn}
 use Rattle.yr_lexer.proofs.Basics.{take-front}
 use Rattle.yr_lexer.proofs.EscapeLemmas.{IsDecided, decided}
@@ -76,6 +75,7 @@ good-text a w u rest e f n = go (decided f.0)
   where
     whole : u ≡ 34 ∷ (f.0 ++ 34 ∷ rest)
     whole = e ∙ ap (λ (x : Text). x ++ rest) f.1 ∙ ap (λ (x : Text). 34 ∷ x) (append_assoc f.0 (34 ∷ []) rest)
+
     go : IsDecided f.0 → HasGoodEscapes kind.Text w
     go (inl g) = (f.0, g.0, f.1, g.1)
     go (inr h) = absurd (n (record { inside = f.0; rest = rest; whole = whole; units = f.2; bad = h }))
@@ -99,8 +99,10 @@ short-name a u rest w k e i = not_more (name_length k (length w)) long
   where
     here : length u - length rest ≡ length w
     here = let l = ap (λ (x : Text). length x) e ∙ length-append w rest in omega arith
+
     long : ¬ (name_limit < name_length k (length w))
     long h = i.no_fault row.LongName (k, rest, i.longest, subst (λ (x : ℕ). name_limit < name_length k x) (sym here) h)
+
     not_more : (n : ℕ) → ¬ (name_limit < n) → n ≤ name_limit
     not_more n h = omega arith
 

@@ -1,13 +1,13 @@
 -- A text has one answer.
-use Rattle.std.proofs.Common.{◌≡◌, ◌≢◌, ℕ, zero, suc, ◌+◌, ◌-◌, ◌<◌, ◌≤◌, Bool, true, false, List, [], ◌∷◌, ◌++◌, length, Result, Ok, Err, refl, sym, ap, subst, ◌∙◌, ◌⊎◌, inl, inr, arith}
+use Rattle.std.proofs.Common.{◌≡◌, ◌≢◌, ℕ, ◌<◌, Bool, false, List, [], ◌∷◌, Result, Err, refl, sym, ap, subst, ◌∙◌, arith}
 use Rattle.std.specs.Prelude.{◌==◌, if◌then◌else◌}
 use Rattle.yr_lexer.specs.declared.token.TokenKind.{TokenKind}
 use Rattle.yr_lexer.specs.declared.token.Token.{Token}
 use Rattle.yr_lexer.specs.declared.fault.FaultRow.{FaultRow}
 use Rattle.yr_lexer.specs.declared.fault.FaultRow.TheVariants as row
 use Rattle.yr_lexer.specs.declared.fault.LexFault.{LexFault}
-use Rattle.yr_lexer.specs.Gaps.{Text, Gap, before, line_at}
-use Rattle.yr_lexer.specs.Faults.{Longest, IsFirstFault, rank}
+use Rattle.yr_lexer.specs.Gaps.{Text, before, line_at}
+use Rattle.yr_lexer.specs.Faults.{IsFirstFault, rank}
 use Rattle.yr_lexer.specs.Tokens.{IsToken, token_at, with_token, is_equals, LexesFrom, nothing, refused, token, fault_on}
 use Rattle.yr_lexer.proofs.Basics.{same-rest}
 use Rattle.yr_lexer.proofs.GapLemmas.{gap-one}
@@ -33,8 +33,10 @@ first-one e t f g p q = sym (row-back f) ∙ ap row_at ranks ∙ row-back g
   where
     not_below : ¬ (rank f < rank g)
     not_below h = q.first f h p.holds
+
     not_above : ¬ (rank g < rank f)
     not_above h = p.first g h q.holds
+
     ranks : rank f ≡ rank g
     ranks = equal (rank f) (rank g) not_below not_above
       where

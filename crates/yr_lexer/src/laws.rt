@@ -10,11 +10,9 @@ ghost use Rattle.yr_lexer.specs.Tokens.{Lexes};
 /// A text has one list of tokens, or one fault.
 pub fn one_answer()
     ensures { (text : Text) (a b : Result (List Token) LexFault) → Lexes text a → Lexes text b → a ≡ b }
-{
-}
+{}
 
 /// The inside of a text stands for one list of bytes.
 pub fn one_meaning()
     ensures { (inside : Text) (a b : List ℕ) → Unescapes inside a → Unescapes inside b → a ≡ b }
-{
-}
+{}

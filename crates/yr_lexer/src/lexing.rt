@@ -62,7 +62,8 @@ fn fault_on(row: FaultRow, line: u32) -> LexFault
 /// The tokens of a text, in order. A token lends its bytes from the text: it has only its places.
 pub fn lex(alloc: Global, text: &[u8]) -> Result<Vec<Token>, LexFault>
     requires { length text.now ≤ 2 ^ 24 }
-    ensures answer { MatchResult result (λ tokens. Lexes text.now (Ok tokens.items)) (ExplainsLex text.now) }
+    ensures answer { MatchResult result
+        (λ tokens. Lexes text.now (Ok tokens.items)) (ExplainsLex text.now) }
     ensures few { IfOk result (λ tokens. length tokens.items ≤ length text.now) }
     ensures lies { IfOk result (λ tokens. All (LiesIn text.now) tokens.items) }
 {

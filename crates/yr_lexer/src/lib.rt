@@ -18,9 +18,9 @@ mod token;
 mod tokens;
 
 pub use fault::{GatherFault, LexFault};
-pub use text::unescape;
 pub use laws::{one_answer, one_meaning};
 pub use lexing::lex;
 pub use source::{FileToken, SourceFile};
+pub use text::unescape;
 pub use token::{Token, TokenKind};
 pub use tokens::Tokens;

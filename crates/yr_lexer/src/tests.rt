@@ -165,10 +165,7 @@ fn texts_have_their_tokens(rt: HostRuntime) {
                 (Sign, 1, 8, 9),
             ],
         ),
-        (
-            "forx for",
-            &[(Word, 1, 0, 4), (Reserved, 1, 5, 8)],
-        ),
+        ("forx for", &[(Word, 1, 0, 4), (Reserved, 1, 5, 8)]),
     ];
     for (text, wanted) in rows {
         assert_eq!(rt; has(alloc, text, wanted), true, "{text}");
@@ -178,7 +175,8 @@ fn texts_have_their_tokens(rt: HostRuntime) {
 #[test]
 fn faults_come_in_their_order_and_texts_stand_for_bytes(rt: HostRuntime) -> Result<(), Fail> {
     let alloc = rt.alloc();
-    let long = "a_________10________20________30________40________50________60________70________80________90_______100_______110_______120______9";
+    let long =
+        "a_________10________20________30________40________50________60________70________80________90_______100_______110_______120______9";
     let rows = [
         ("rule a { strings: $a = \"x", LexFault::Unclosed(1)),
         ("\n\"x\n\"", LexFault::Unclosed(2)),

@@ -1,4 +1,4 @@
-use Rattle.std.proofs.Common.{arith, length}
+use Rattle.std.proofs.Common.{arith}
 use Rattle.yr_lexer.proofs.CallerLemmas.{lexes-few, lexes-lie}
 use Rattle.yr_lexer.proofs.Whole.{gap-within, starts, place-some, refuses, falls, one-more, is-whole}
 use Rattle.yr_lexer.proofs.lexing.lex.Goals as goal
