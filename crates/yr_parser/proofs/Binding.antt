@@ -1,18 +1,17 @@
 -- How tightly the next terminal binds, and at which strength a part goes on.
-use Rattle.std.proofs.Common.{◌≡◌, ℕ, zero, suc, ◌+◌, ◌<◌, ◌≤◌, Bool, true, false, if◌then◌else◌, List, [], ◌∷◌, length, Option, Some, None, refl, sym, ap, subst, ◌∙◌, arith}
+use Rattle.std.proofs.Common.{◌≡◌, ℕ, ◌<◌, Bool, true, false, if◌then◌else◌, List, [], ◌∷◌, Some, None, refl, ap, subst, arith}
 use Rattle.yr_syntax.specs.declared.operator.Infix.{Infix}
 use Rattle.yr_syntax.specs.declared.operator.Infix.TheVariants as op
-use Rattle.yr_syntax.specs.Condition.{Condition, Asked, OneLink, links_of}
-use Rattle.yr_syntax.specs.Condition as tree
+use Rattle.yr_syntax.specs.Condition.{Condition, OneLink}
 use Rattle.yr_parser.specs.declared.sign.Sign.{Sign as SignType}
 use Rattle.yr_parser.specs.declared.sign.Sign.TheVariants as sign
 use Rattle.yr_parser.specs.declared.level.Level.{Level}
 use Rattle.yr_parser.specs.declared.level.Level.TheVariants.{Or, And, Equal, Rel, Bits, Bxor, Band, Shift, Sum, Prod}
-use Rattle.yr_parser.specs.Terminals.{Terminals, Word, Number, Text, Regex, Hex, StringName, StringWild, CountName, PlaceName, LengthName, Read, Flag, Operator, Sign}
-use Rattle.yr_parser.specs.Levels.{Part, level, not, test, unary, primary, level_of, operand, repeats}
-use Rattle.yr_parser.specs.Conditions.{Reads, one, chain, pair, matches, negated, is_defined, plain, found, of, for_of, for_in, compared, minus, flip, bare, brackets, number, text, truth, file_size, reads, count, count_in, offset, offset_at, len, len_at, path, Links, last, next, Counts, every, some, none, at_least, Quants, counts, percent}
-use Rattle.yr_parser.specs.Input.{Parser, sees, tail, first, is_sign, same_sign}
-use Rattle.yr_parser.specs.Reading.{joins_at, same_level, next_link, link_by, chain_of, prefix_at, negates_at, count_at, string_at, sees_operator, same_operator, sees_percent_of}
+use Rattle.yr_parser.specs.Terminals.{Terminals, Operator, Sign}
+use Rattle.yr_parser.specs.Levels.{Part, level, not, test, unary, primary, level_of, operand}
+use Rattle.yr_parser.specs.Conditions.{Reads, one, chain, pair, matches, negated, is_defined, plain, found, of, for_of, for_in, compared, minus, flip, bare, brackets, number, text, truth, file_size, reads, count, count_in, offset, offset_at, len, len_at, path, Links, last, next, every, some, none, at_least, counts, percent}
+use Rattle.yr_parser.specs.Input.{Parser, sees, same_sign}
+use Rattle.yr_parser.specs.Reading.{joins_at, same_level, next_link, link_by, prefix_at, negates_at, count_at, string_at, sees_operator, sees_percent_of}
 use Rattle.yr_parser.proofs.Outcomes.{same_level-true, same_level-refl, sees-true, sees_operator-true}
 
 -- the rank of a level

@@ -1,30 +1,25 @@
 -- What the grammar has is read.
-use Rattle.std.proofs.Common.{◌≡◌, ℕ, zero, suc, ◌+◌, ◌<◌, ◌≤◌, Bool, true, false, List, [], ◌∷◌, length, Option, Some, None, if◌then◌else◌, refl, sym, subst, ap, ◌∙◌, arith}
-use Rattle.yr_syntax.specs.declared.operator.Infix.{Infix}
-use Rattle.yr_syntax.specs.declared.operator.Infix.TheVariants as op
+use Rattle.std.proofs.Common.{◌≡◌, ℕ, zero, suc, ◌+◌, ◌<◌, ◌≤◌, false, List, [], ◌∷◌, length, Some, refl, ap, ◌∙◌, arith}
 use Rattle.yr_syntax.specs.declared.operator.PrefixOp.TheVariants as prefix
-use Rattle.yr_syntax.specs.declared.operator.Reader.{Reader}
 use Rattle.yr_syntax.specs.Condition.{Condition, Where, Asked, Domain, Bounds, SetTree, RegexTree, OneLink, OneStep, links_of, items_of, steps_of}
 use Rattle.yr_syntax.specs.Condition as tree
-use Rattle.yr_parser.specs.declared.sign.Sign.{Sign as SignType}
 use Rattle.yr_parser.specs.declared.sign.Sign.TheVariants as sign
 use Rattle.yr_parser.specs.declared.level.Level.{Level}
-use Rattle.yr_parser.specs.declared.level.Level.TheVariants.{Or, And, Equal, Rel, Bits, Bxor, Band, Shift, Sum, Prod}
+use Rattle.yr_parser.specs.declared.level.Level.TheVariants.{Equal, Rel, Bits}
 use Rattle.yr_parser.specs.declared.level.Entry.{Entry}
 use Rattle.yr_parser.specs.declared.level.Entry.TheVariants as entry
-use Rattle.yr_parser.specs.Terminals.{Terminals, Word, Number, Text, Regex, Hex, StringName, StringWild, CountName, PlaceName, LengthName, Read, Flag, Operator, Sign}
-use Rattle.yr_parser.specs.Levels.{Part, level, not, test, unary, primary, level_of, operand, repeats}
-use Rattle.yr_parser.specs.Input.{Outcome, Parser, and_then, ◌>>=◌, ◌>>◌, ◌<$>◌, pure, first, tail, sees, eat, after, expect, many, same_sign}
-use Rattle.yr_parser.specs.Reading as reading
-use Rattle.yr_parser.specs.Reading.{no_more, joins_at, link_by, next_link, chain_of, level_from, pair_of, pair_from, matches_from, regex_at, prefix_by, prefix_at, negates_at, count_at, count_by, string_at, test_by, counted_by, percent_by, sees_operator, same_operator, sees_percent_of, read_word, read_set, read_closed, range_from, read_range, next_item, items_from, read_items, read_call, read_index, read_field, step_other, step_index, next_step, path_from, read_reader, count_from, offset_from, length_from, read_path, primary_sign, primary_name, read_primary, read_unary, prod_from, sum_from, shift_from, band_from, bxor_from, bits_from, read_prod, read_sum, read_shift, read_band, read_bxor, read_bits, read_rel, rel_from, equal_rest, equal_from, place_at, place_in, read_place, found_from, of_from, read_count, read_body, over_from, over_brackets, read_over, for_of_from, for_in_from, read_for, percent_from, test_from, test_count, test_other, read_test, read_not, read_and, read_or, read_entry, cond_at}
+use Rattle.yr_parser.specs.Terminals.{Terminals, Word, Regex, Operator, Sign}
+use Rattle.yr_parser.specs.Levels.{Part, level, operand, repeats}
+use Rattle.yr_parser.specs.Input.{Parser, pure, sees, many, same_sign}
+use Rattle.yr_parser.specs.Reading.{next_link, prefix_at, negates_at, range_from, read_range, next_item, next_step, read_primary, read_unary, read_place, read_count, read_over, test_from, read_not, cond_at}
 use Rattle.yr_parser.specs.Shallow.{Shallow}
-use Rattle.yr_parser.specs.Conditions.{one_link, Sets, Reads, one, chain, pair, matches, negated, is_defined, plain, found, of, for_of, for_in, compared, minus, flip, bare, brackets, number, text, truth, file_size, reads, count, count_in, offset, offset_at, len, len_at, path, Links, last, next, Counts, every, some, none, at_least, Quants, counts, percent, Places, anywhere, at, within, Ranges, from_to, Overs, over_range, over_list, over_path, ReadsItems, one_item, item_then, ReadsSteps, no_step, name_step, index_step, empty_call, call_step}
+use Rattle.yr_parser.specs.Conditions.{one_link, Reads, one, chain, pair, matches, negated, is_defined, plain, found, of, for_of, for_in, compared, minus, flip, bare, brackets, number, text, truth, file_size, reads, count, count_in, offset, offset_at, len, len_at, path, Links, last, next, Counts, every, some, none, at_least, counts, percent, Places, anywhere, at, within, Ranges, from_to, Overs, over_range, over_list, over_path, ReadsItems, one_item, item_then, ReadsSteps, no_step, name_step, index_step, empty_call, call_step}
 use Rattle.yr_parser.proofs.Outcomes.{bind, many-stop, many-more}
-use Rattle.yr_parser.proofs.Binding.{rank, binds, power, power-operand, operator-ends, Links-ends, next_link-none, IsTight, NoCount, NoCount-weaker, begins, primary-begins, test-begins, pair-no_count, matches-no_count}
+use Rattle.yr_parser.proofs.Binding.{rank, binds, power, power-operand, operator-ends, Links-ends, next_link-none, IsTight, NoCount-weaker, begins, primary-begins, test-begins, pair-no_count, matches-no_count}
 use Rattle.yr_parser.proofs.Shorter.{Reads-shorter, ReadsItems-shorter, Sets-shallow, Reads-shallow, Counts-shallow, Overs-shallow, ReadsItems-shallow}
 use Rattle.yr_parser.proofs.Sound.{entry_part}
-use Rattle.yr_parser.proofs.SetComplete.{comma-more, comma-done, Split, split-more, split-one, set-complete}
-use Rattle.yr_parser.proofs.Onward.{next_link-here, Opens, Done, read, done-read, level-one, level-chain, level-pair, level-matches, closed-is, range-is, range_from-is, items-is, step-none, step-name, step-index, step-empty, step-call, path_from-is, primary-brackets, primary-size, primary-reader, primary-count, primary-count_in, primary-offset, primary-offset_at, primary-length, primary-length_at, primary-path, unary-bare, not-plain, place-none, place-at, place-in, test-found, of_from-is, test-all, test-any, test-none, test-unary, test_from-of, test_from-percent, test_from-equal, count-unary, count-all, count-any, count-none, body-is, over-range, over-list, over-path, test-for_of, test-for_in}
+use Rattle.yr_parser.proofs.SetComplete.{Split, split-more, split-one, set-complete}
+use Rattle.yr_parser.proofs.Onward.{next_link-here, Done, read, done-read, level-one, level-chain, level-pair, level-matches, range-is, range_from-is, items-is, step-none, step-name, step-index, step-empty, step-call, path_from-is, primary-brackets, primary-size, primary-reader, primary-count, primary-count_in, primary-offset, primary-offset_at, primary-length, primary-length_at, primary-path, unary-bare, not-plain, place-none, place-at, place-in, test-found, of_from-is, test-all, test-any, test-none, test-unary, test_from-of, test_from-percent, test_from-equal, count-unary, count-all, count-any, count-none, body-is, over-range, over-list, over-path, test-for_of, test-for_in}
 
 -- what stands between brackets, one level deeper
 inner-by : (e : Entry) (k rest : Terminals) (c : Condition)

@@ -1,12 +1,11 @@
 -- The test of depth finds a place or a run, and where it finds none the brackets are shallow.
-use Rattle.std.proofs.Common.{◌≡◌, ℕ, zero, suc, ◌+◌, ◌<◌, ◌≤◌, Bool, true, false, if◌then◌else◌, List, [], ◌∷◌, ◌++◌, length, take, refl, sym, ap, subst, ◌∙◌, ◌⊎◌, inl, inr, ⊎_elim, arith}
+use Rattle.std.proofs.Common.{◌≡◌, ℕ, zero, suc, ◌+◌, ◌<◌, ◌≤◌, Bool, true, false, if◌then◌else◌, [], ◌∷◌, ◌++◌, length, take, refl, sym, ap, subst, ◌∙◌, ◌⊎◌, inl, inr, ⊎_elim, arith}
 use Rattle.std.specs.Prelude.{fold, nat_le, ◌&&◌}
 use Rattle.std.proofs.lemmas.Bool.{leb-true, leb-false}
 use Rattle.yr_parser.specs.declared.sign.Sign.TheVariants as sign
-use Rattle.yr_syntax.specs.declared.operator.Infix.TheVariants as op
 use Rattle.yr_parser.specs.Terminals.{Terminal, Terminals, Operator, Sign}
 use Rattle.yr_parser.specs.Shallow.{Shallow, Unless}
-use Rattle.yr_parser.specs.Depth.{is_brace, front, closed_after, opened_after, opened, is_prefix, ArePrefixes, OpensTooMany, RunsTooLong, IsTooDeep, run_after, deep_from}
+use Rattle.yr_parser.specs.Depth.{is_brace, front, closed_after, opened_after, is_prefix, ArePrefixes, OpensTooMany, RunsTooLong, IsTooDeep, run_after, deep_from}
 
 both : (a b : Bool) → a && b ≡ true → (a ≡ true) × (b ≡ true)
 both true true e = (refl, refl)

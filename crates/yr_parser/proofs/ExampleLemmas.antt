@@ -1,16 +1,13 @@
 -- Small conditions, read by the grammar or by none of its cases.
-use Rattle.std.proofs.Common.{◌≡◌, ℕ, ◌<◌, ◌≤◌, ◌+◌, List, [], ◌∷◌, length, Option, Some, None, true, false, refl, ap, arith}
-use Rattle.std.specs.Prelude.{if◌then◌else◌}
+use Rattle.std.proofs.Common.{◌≡◌, ℕ, ◌≤◌, length, Option, Some, None, refl, ap, arith}
 use Rattle.yr_syntax.specs.Condition.{Condition}
-use Rattle.yr_parser.specs.declared.sign.Sign.TheVariants as sign
 use Rattle.yr_parser.specs.declared.level.Level.TheVariants as levels
 use Rattle.yr_parser.specs.declared.level.Entry.TheVariants as entry
-use Rattle.yr_parser.specs.Terminals.{Terminals, Sign}
+use Rattle.yr_parser.specs.Terminals.{Terminals}
 use Rattle.yr_parser.specs.Levels.{level, unary}
 use Rattle.yr_parser.specs.Conditions.{Reads, one, chain, pair, plain, negated, found, of, for_in, compared, bare, number, text, path, offset_at, count, reads, last, some, at_least, counts, percent, anywhere, at, within, from_to, over_path, no_step, name_step, strings, one_wild, them}
-use Rattle.yr_parser.specs.Shallow.{Shallow}
 use Rattle.yr_parser.specs.Input.{Outcome, same_sign, sees, after, expect, many}
-use Rattle.yr_parser.specs.Reading.{same_level, joins_at, negates_at, prefix_at, count_at, string_at, string_item_at, regex_at, same_operator, sees_operator, sees_percent_of, read_word, read_string_item, next_string_item, read_string_items, read_rule_item, next_rule_item, read_rule_items, read_strings, read_rules, read_members, read_set, next_link, level_from, pair_from, matches_from, read_closed, range_from, read_range, next_item, items_from, read_items, read_call, read_index, read_field, step_other, step_index, next_step, path_from, read_reader, count_from, offset_from, length_from, read_path, primary_sign, primary_name, read_primary, read_unary, prod_from, read_prod, sum_from, read_sum, shift_from, read_shift, band_from, read_band, bxor_from, read_bxor, bits_from, read_bits, rel_from, read_rel, equal_rest, equal_from, place_at, place_in, read_place, found_from, of_from, read_count, read_body, over_from, over_brackets, read_over, for_of_from, for_in_from, read_for, percent_from, test_from, test_count, test_other, read_test, read_not, read_and, read_or, cond_at}
+use Rattle.yr_parser.specs.Reading.{same_level, joins_at, negates_at, prefix_at, count_at, string_at, same_operator, sees_operator, sees_percent_of, read_word, next_link, level_from, pair_from, matches_from, primary_sign, primary_name, read_primary, read_unary, prod_from, read_prod, sum_from, read_sum, shift_from, read_shift, band_from, read_band, bxor_from, read_bxor, bits_from, read_bits, rel_from, read_rel, equal_rest, equal_from, place_at, place_in, read_place, found_from, read_count, for_of_from, for_in_from, read_for, percent_from, test_from, test_count, test_other, read_test, read_not, read_and, read_or, cond_at}
 use Rattle.yr_parser.specs.Examples as examples
 use Rattle.yr_parser.specs.Examples.{Spells, IsNoCondition, brace, Examples}
 use Rattle.yr_parser.proofs.Complete.{read-complete}
@@ -71,13 +68,21 @@ percent_of_spelled = one (one (plain (of (percent (bare number)) them (at (bits_
 sections_spelled : Spells examples.sections examples.sections_tree
 sections_spelled =
     one (one (plain (for_in some (over_path (name_step no_step))
-        (one (one (plain (compared (pair refl (rel_of (bare (path (name_step no_step)))) refl (rel_of (bare text))))))))))
+    (one (one (plain (compared (pair refl (rel_of (bare (path (name_step no_step)))) refl (rel_of (bare text))))))))))
 
 mixed_spelled : Spells examples.mixed examples.mixed_tree
 mixed_spelled = one (chain refl (negated (plain (found (within (from_to (bits_of (bare number)) (bits_of (bare count))))))) (last refl (plain (compared (one (pair refl (one (one (one (one (chain refl (one (bare (offset_at (bits_of (bare number))))) (last refl (chain refl (bare number) (last refl (bare number))))))))) refl (bits_of (bare (reads (bits_of (bare number)))))))))))
 
 pub small_conditions : Examples
 small_conditions = record {
-  two_of = two_of_spelled; percent_of = percent_of_spelled; sections = sections_spelled; mixed = mixed_spelled; empty = empty_none;
-  percent_count = percent_count_none; sum_of = sum_of_none; string_equal = string_equal_none; two_comparisons = two_comparisons_none; percent_loop = percent_loop_none;
+  two_of = two_of_spelled;
+  percent_of = percent_of_spelled;
+  sections = sections_spelled;
+  mixed = mixed_spelled;
+  empty = empty_none;
+  percent_count = percent_count_none;
+  sum_of = sum_of_none;
+  string_equal = string_equal_none;
+  two_comparisons = two_comparisons_none;
+  percent_loop = percent_loop_none;
 }

@@ -1,5 +1,5 @@
 -- What is read from good terminals has its forms.
-use Rattle.std.proofs.Common.{◌≡◌, ℕ, zero, suc, ◌<◌, ◌≤◌, Bool, true, false, List, [], ◌∷◌, length, ⊎_elim, inl, inr, refl, sym, subst, ap, ◌∙◌, arith}
+use Rattle.std.proofs.Common.{◌≡◌, ℕ, Bool, true, false, List, refl}
 use Rattle.yr_syntax.specs.Condition.{Condition, Where, Asked, Domain, SetTree, ItemTree, OneLink, OneStep, links_of, items_of, steps_of}
 use Rattle.yr_syntax.specs.Declaration.{ModifierTree, BodyTree, StringTree, ValueTree, MetaTree, RuleTree, Declaration}
 use Rattle.yr_syntax.specs.Forms.{Each, IsWordName, IsStringItem, IsRuleItem, SetHasForms, HasForms, LinksHaveForms, StepsHaveForms, ItemsHaveForms, PlaceHasForms, AskedHasForms, DomainHasForms, StringHasForms, MetaHasForms, RuleHasForms, DeclarationHasForms, HaveForms}
@@ -30,7 +30,7 @@ RuleItems-forms (rule_then x0) g = let n0 = g.0 in let h0 = RuleItems-forms x0 g
 RuleItems-forms (front_then x0) g = let n0 = g.0 in let h0 = RuleItems-forms x0 g.1.1.1 in ((n0, h0.0), h0.1)
 
 Sets-forms : {k rest : Terminals} {v : SetTree} → Sets k v rest → AreGood k → (SetHasForms v) × AreGood rest
-Sets-forms them g =  (tt, g.1)
+Sets-forms them g = (tt, g.1)
 Sets-forms (grammar.strings x0) g = let h0 = StringItems-forms x0 g.1 in (h0.0, h0.1.1)
 Sets-forms (grammar.rules x0) g = let h0 = RuleItems-forms x0 g.1 in (h0.0, h0.1.1)
 
@@ -52,10 +52,10 @@ mutual
   Reads-forms (flip x0) g = let h0 = Reads-forms x0 g.1 in (h0.0, h0.1)
   Reads-forms (bare x0) g = let h0 = Reads-forms x0 g in (h0.0, h0.1)
   Reads-forms (brackets x0) g = let h0 = Reads-forms x0 g.1 in (h0.0, h0.1.1)
-  Reads-forms grammar.number g =  (tt, g.1)
-  Reads-forms grammar.text g =  (tt, g.1)
-  Reads-forms grammar.truth g =  (tt, g.1)
-  Reads-forms file_size g =  (tt, g.1)
+  Reads-forms grammar.number g = (tt, g.1)
+  Reads-forms grammar.text g = (tt, g.1)
+  Reads-forms grammar.truth g = (tt, g.1)
+  Reads-forms file_size g = (tt, g.1)
   Reads-forms (reads x0) g = let h0 = Reads-forms x0 g.1.1 in (h0.0, h0.1.1)
   Reads-forms count g = let n0 = g.0 in (n0, g.1)
   Reads-forms (count_in x0) g = let n0 = g.0 in let h0 = Ranges-forms x0 g.1.1 in ((n0, h0.0, h0.1), h0.2)
@@ -70,9 +70,9 @@ mutual
   Links-forms (next e0 x1 x2) g = let h1 = Reads-forms x1 g.1 in let h2 = Links-forms x2 h1.1 in ((h1.0, h2.0), h2.1)
 
   Counts-forms : {k rest : Terminals} {v : Asked} → Counts k v rest → AreGood k → (AskedHasForms v) × AreGood rest
-  Counts-forms every g =  (tt, g.1)
-  Counts-forms some g =  (tt, g.1)
-  Counts-forms none g =  (tt, g.1)
+  Counts-forms every g = (tt, g.1)
+  Counts-forms some g = (tt, g.1)
+  Counts-forms none g = (tt, g.1)
   Counts-forms (at_least x0) g = let h0 = Reads-forms x0 g in (h0.0, h0.1)
 
   Quants-forms : {k rest : Terminals} {v : Asked} → Quants k v rest → AreGood k → (AskedHasForms v) × AreGood rest
@@ -80,7 +80,7 @@ mutual
   Quants-forms (percent x0) g = let h0 = Reads-forms x0 g in (h0.0, h0.1.1)
 
   Places-forms : {k rest : Terminals} {v : Where} → grammar.Places k v rest → AreGood k → (PlaceHasForms v) × AreGood rest
-  Places-forms anywhere g =  (tt, g)
+  Places-forms anywhere g = (tt, g)
   Places-forms (at x0) g = let h0 = Reads-forms x0 g.1 in (h0.0, h0.1)
   Places-forms (within x0) g = let h0 = Ranges-forms x0 g.1 in ((h0.0, h0.1), h0.2)
 
@@ -97,63 +97,63 @@ mutual
   ReadsItems-forms (item_then x0 x1) g = let h0 = Reads-forms x0 g in let h1 = ReadsItems-forms x1 h0.1.1 in ((h0.0, h1.0), h1.1)
 
   ReadsSteps-forms : {k rest : Terminals} {v : List OneStep} → ReadsSteps k v rest → AreGood k → (StepsHaveForms (steps_of v)) × AreGood rest
-  ReadsSteps-forms no_step g =  (tt, g)
+  ReadsSteps-forms no_step g = (tt, g)
   ReadsSteps-forms (name_step x0) g = let n0 = g.1.0 in let h0 = ReadsSteps-forms x0 g.1.1 in ((n0, h0.0), h0.1)
   ReadsSteps-forms (index_step x0 x1) g = let h0 = Reads-forms x0 g.1 in let h1 = ReadsSteps-forms x1 h0.1.1 in ((h0.0, h1.0), h1.1)
   ReadsSteps-forms (empty_call x0) g = let h0 = ReadsSteps-forms x0 g.1.1 in ((tt, h0.0), h0.1)
   ReadsSteps-forms (call_step x0 x1) g = let h0 = ReadsItems-forms x0 g.1 in let h1 = ReadsSteps-forms x1 h0.1.1 in ((h0.0, h1.0), h1.1)
 
 Values-forms : {k rest : Terminals} {v : ValueTree} → Values k v rest → AreGood k → (Unit {0}) × AreGood rest
-Values-forms declarations.text g =  (tt, g.1)
-Values-forms declarations.number g =  (tt, g.1)
-Values-forms negative g =  (tt, g.1.1)
-Values-forms declarations.truth g =  (tt, g.1)
+Values-forms declarations.text g = (tt, g.1)
+Values-forms declarations.number g = (tt, g.1)
+Values-forms negative g = (tt, g.1.1)
+Values-forms declarations.truth g = (tt, g.1)
 
 Metas-forms : {k rest : Terminals} {v : List MetaTree} → Metas k v rest → AreGood k → (Each MetaHasForms v) × AreGood rest
 Metas-forms (one_meta x0) g = let n0 = g.0 in let h0 = Values-forms x0 g.1.1 in ((n0, tt), h0.1)
 Metas-forms (meta_then x0 x1) g = let n0 = g.0 in let h0 = Values-forms x0 g.1.1 in let h1 = Metas-forms x1 h0.1 in ((n0, h1.0), h1.1)
 
 MetaPart-forms : {k rest : Terminals} {v : List MetaTree} → MetaPart k v rest → AreGood k → (Each MetaHasForms v) × AreGood rest
-MetaPart-forms no_meta g =  (tt, g)
+MetaPart-forms no_meta g = (tt, g)
 MetaPart-forms (metas x0) g = let h0 = Metas-forms x0 g.1.1 in (h0.0, h0.1)
 
 OneModifier-forms : {k rest : Terminals} {v : ModifierTree} → OneModifier k v rest → AreGood k → (Unit {0}) × AreGood rest
-OneModifier-forms nocase g =  (tt, g.1)
-OneModifier-forms wide g =  (tt, g.1)
-OneModifier-forms ascii g =  (tt, g.1)
-OneModifier-forms fullword g =  (tt, g.1)
-OneModifier-forms hidden g =  (tt, g.1)
-OneModifier-forms xor_all g =  (tt, g.1)
-OneModifier-forms declarations.xor_one g =  (tt, g.1.1.1.1)
-OneModifier-forms declarations.xor_range g =  (tt, g.1.1.1.1.1.1)
-OneModifier-forms base64 g =  (tt, g.1)
-OneModifier-forms base64_by g =  (tt, g.1.1.1.1)
-OneModifier-forms base64wide g =  (tt, g.1)
-OneModifier-forms base64wide_by g =  (tt, g.1.1.1.1)
+OneModifier-forms nocase g = (tt, g.1)
+OneModifier-forms wide g = (tt, g.1)
+OneModifier-forms ascii g = (tt, g.1)
+OneModifier-forms fullword g = (tt, g.1)
+OneModifier-forms hidden g = (tt, g.1)
+OneModifier-forms xor_all g = (tt, g.1)
+OneModifier-forms declarations.xor_one g = (tt, g.1.1.1.1)
+OneModifier-forms declarations.xor_range g = (tt, g.1.1.1.1.1.1)
+OneModifier-forms base64 g = (tt, g.1)
+OneModifier-forms base64_by g = (tt, g.1.1.1.1)
+OneModifier-forms base64wide g = (tt, g.1)
+OneModifier-forms base64wide_by g = (tt, g.1.1.1.1)
 
 Modifiers-forms : {k rest : Terminals} {v : List ModifierTree} → Modifiers k v rest → AreGood k → (Unit {0}) × AreGood rest
-Modifiers-forms no_modifier g =  (tt, g)
+Modifiers-forms no_modifier g = (tt, g)
 Modifiers-forms (modifier_then x0 x1) g = let h0 = OneModifier-forms x0 g in let h1 = Modifiers-forms x1 h0.1 in (tt, h1.1)
 
 Bodies-forms : {k rest : Terminals} {v : BodyTree} → Bodies k v rest → AreGood k → (Unit {0}) × AreGood rest
-Bodies-forms declarations.text g =  (tt, g.1)
-Bodies-forms regex g =  (tt, g.1)
-Bodies-forms hex g =  (tt, g.1)
+Bodies-forms declarations.text g = (tt, g.1)
+Bodies-forms regex g = (tt, g.1)
+Bodies-forms hex g = (tt, g.1)
 
 Words-forms : {k rest : Terminals} {v : List (List ℕ)} → Words k v rest → AreGood k → (Each IsWordName v) × AreGood rest
 Words-forms one_word g = let n0 = g.0 in ((n0, tt), g.1)
 Words-forms (word_then x0) g = let n0 = g.0 in let h0 = Words-forms x0 g.1 in ((n0, h0.0), h0.1)
 
 Tags-forms : {k rest : Terminals} {v : List (List ℕ)} → Tags k v rest → AreGood k → (Each IsWordName v) × AreGood rest
-Tags-forms no_tag g =  (tt, g)
+Tags-forms no_tag g = (tt, g)
 Tags-forms (tags x0) g = let h0 = Words-forms x0 g.1 in (h0.0, h0.1)
 
 Flags-forms : {k rest : Terminals} {g p : Bool} → Flags k g p rest → AreGood k → (Unit {0}) × AreGood rest
-Flags-forms no_flag g =  (tt, g)
-Flags-forms global g =  (tt, g.1)
-Flags-forms private g =  (tt, g.1)
-Flags-forms global_private g =  (tt, g.1.1)
-Flags-forms private_global g =  (tt, g.1.1)
+Flags-forms no_flag g = (tt, g)
+Flags-forms global g = (tt, g.1)
+Flags-forms private g = (tt, g.1)
+Flags-forms global_private g = (tt, g.1.1)
+Flags-forms private_global g = (tt, g.1.1)
 
 OneString-forms : {places : Places} {k rest : Terminals} {v : StringTree} → OneString places k v rest → AreGood k → (StringHasForms v) × AreGood rest
 OneString-forms (string x0 x1) g = let n0 = g.0 in let h0 = Bodies-forms x0 g.1.1 in let h1 = Modifiers-forms x1 h0.1 in (n0, h1.1)
@@ -163,7 +163,7 @@ Strings-forms (declarations.one_string x0) g = let h0 = OneString-forms x0 g in 
 Strings-forms (declarations.string_then x0 x1) g = let h0 = OneString-forms x0 g in let h1 = Strings-forms x1 h0.1 in ((h0.0, h1.0), h1.1)
 
 StringPart-forms : {places : Places} {k rest : Terminals} {v : List StringTree} → StringPart places k v rest → AreGood k → (Each StringHasForms v) × AreGood rest
-StringPart-forms no_string g =  (tt, g)
+StringPart-forms no_string g = (tt, g)
 StringPart-forms (declarations.strings x0) g = let h0 = Strings-forms x0 g.1.1 in (h0.0, h0.1)
 
 rule-forms : {places : Places} {k rest : Terminals} {r : RuleTree} → OneRule places k r rest → AreGood k → Shallow 64 0 k → RuleHasForms r × AreGood rest

@@ -1,5 +1,5 @@
 -- Gathered tokens are good terminals.
-use Rattle.std.proofs.Common.{◌≡◌, ℕ, zero, suc, ◌+◌, ◌-◌, ◌<◌, ◌≤◌, Bool, true, false, List, [], ◌∷◌, ◌++◌, length, drop, take, map, refl, sym, ap, subst, ◌∙◌, arith, length-append}
+use Rattle.std.proofs.Common.{◌≡◌, ℕ, zero, suc, ◌-◌, ◌≤◌, true, List, [], ◌∷◌, ◌++◌, length, drop, take, map, refl, sym, ap, subst, ◌∙◌, arith, length-append}
 use Rattle.std.specs.Prelude.{All}
 use Rattle.yr_base.specs.Bytes.{is_word_byte}
 use Rattle.yr_lexer.specs.declared.token.TokenKind.{TokenKind}
@@ -8,7 +8,7 @@ use Rattle.yr_lexer.specs.declared.source.FileToken.{FileToken}
 use Rattle.yr_lexer.specs.Sources.{File, Gathered, spelling, LiesInFile}
 use Rattle.yr_lexer.specs.Forms.{IsSpelled}
 use Rattle.yr_syntax.specs.Forms.{Each, IsName}
-use Rattle.yr_parser.specs.Terminals.{Terminal, Word, Read, Flag, Operator, Sign}
+use Rattle.yr_parser.specs.Terminals.{Terminal, Read, Flag, Operator, Sign}
 use Rattle.yr_parser.specs.Good.{IsGood, AreGood}
 use Rattle.yr_parser.specs.Spelling.{words, signs, lookup, known, inside, spelled, terminal_of, terminals_of}
 use Rattle.yr_parser.proofs.TokenLemmas.{is_fixed, known-fixed, words-fixed, signs-fixed, inside-quoted}

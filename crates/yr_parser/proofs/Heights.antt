@@ -1,5 +1,5 @@
 -- How high a condition is that brackets nest so deep in.
-use Rattle.std.proofs.Common.{◌≡◌, ℕ, zero, suc, ◌+◌, ◌*◌, ◌<◌, ◌≤◌, List, [], ◌∷◌, length, arith}
+use Rattle.std.proofs.Common.{ℕ, suc, ◌+◌, ◌*◌, ◌≤◌, List, arith}
 use Rattle.std.specs.Prelude.{max}
 use Rattle.yr_syntax.specs.Condition.{Condition, Where, Asked, Domain, OneLink, OneStep, links_of, items_of, steps_of}
 use Rattle.yr_syntax.specs.Height.{height, links_height, steps_height, items_height, where_height, asked_height, domain_height}
@@ -9,7 +9,7 @@ use Rattle.yr_parser.specs.Terminals.{Terminals}
 use Rattle.yr_parser.specs.Levels.{Part, level, not, test, unary, primary, operand}
 use Rattle.yr_parser.specs.Shallow.{Shallow}
 use Rattle.yr_parser.specs.Conditions.{Reads, one, chain, pair, matches, negated, is_defined, plain, found, of, for_of, for_in, compared, minus, flip, bare, brackets, number, text, truth, file_size, reads, count, count_in, offset, offset_at, len, len_at, path, Links, last, next, Counts, every, some, none, at_least, Quants, counts, percent, Places, anywhere, at, within, Ranges, from_to, Overs, over_range, over_list, over_path, ReadsItems, one_item, item_then, ReadsSteps, no_step, name_step, index_step, empty_call, call_step}
-use Rattle.yr_parser.proofs.Shorter.{Sets-shallow, Reads-shallow, Links-shallow, Counts-shallow, Quants-shallow, Places-shallow, Ranges-shallow, Overs-shallow, ReadsItems-shallow, ReadsSteps-shallow}
+use Rattle.yr_parser.proofs.Shorter.{Sets-shallow, Reads-shallow, Counts-shallow, Quants-shallow, Overs-shallow, ReadsItems-shallow}
 
 -- the most nodes on a way through a part, down to the next bracket
 abbrev pub slack : Part → ℕ
@@ -58,16 +58,16 @@ mutual
   Reads-height (flip x0) m o h s = let h0 = Reads-height x0 m o h s.1 in omega arith
   Reads-height (bare x0) m o h s = let h0 = Reads-height x0 m o h s in omega arith
   Reads-height (brackets x0) m o h s = let s1 = s in let lt : suc o ≤ m = s1.0 in let h0 = Reads-height x0 m (suc o) lt s1.1 in omega arith
-  Reads-height number m o h s =  omega arith
-  Reads-height text m o h s =  omega arith
-  Reads-height truth m o h s =  omega arith
-  Reads-height file_size m o h s =  omega arith
+  Reads-height number m o h s = omega arith
+  Reads-height text m o h s = omega arith
+  Reads-height truth m o h s = omega arith
+  Reads-height file_size m o h s = omega arith
   Reads-height (reads x0) m o h s = let s1 = s.1 in let lt : suc o ≤ m = s1.0 in let h0 = Reads-height x0 m (suc o) lt s1.1 in omega arith
-  Reads-height count m o h s =  omega arith
+  Reads-height count m o h s = omega arith
   Reads-height (count_in x0) m o h s = let h0 = Ranges-height x0 m o h s.1.1 in omega arith
-  Reads-height offset m o h s =  omega arith
+  Reads-height offset m o h s = omega arith
   Reads-height (offset_at x0) m o h s = let s1 = s.1 in let lt : suc o ≤ m = s1.0 in let h0 = Reads-height x0 m (suc o) lt s1.1 in omega arith
-  Reads-height len m o h s =  omega arith
+  Reads-height len m o h s = omega arith
   Reads-height (len_at x0) m o h s = let s1 = s.1 in let lt : suc o ≤ m = s1.0 in let h0 = Reads-height x0 m (suc o) lt s1.1 in omega arith
   Reads-height (path x0) m o h s = let h0 = ReadsSteps-height x0 m o h s.1 in omega arith
 
@@ -76,9 +76,9 @@ mutual
   Links-height (next e0 x1 x2) m o h s = let h1 = Reads-height x1 m o h s.1 in let s1 = Reads-shallow x1 m o s.1 in let h2 = Links-height x2 m o h s1 in omega arith
 
   pub Counts-height : {k rest : Terminals} {v : Asked} → Counts k v rest → (m o : ℕ) → o ≤ m → Shallow m o k → asked_height v + 11 * o ≤ 11 * m + 1
-  Counts-height every m o h s =  omega arith
-  Counts-height some m o h s =  omega arith
-  Counts-height none m o h s =  omega arith
+  Counts-height every m o h s = omega arith
+  Counts-height some m o h s = omega arith
+  Counts-height none m o h s = omega arith
   Counts-height (at_least x0) m o h s = let h0 = Reads-height x0 m o h s in omega arith
 
   pub Quants-height : {k rest : Terminals} {v : Asked} → Quants k v rest → (m o : ℕ) → o ≤ m → Shallow m o k → asked_height v + 11 * o ≤ 11 * m + 1
@@ -86,7 +86,7 @@ mutual
   Quants-height (percent x0) m o h s = let h0 = Reads-height x0 m o h s in omega arith
 
   pub Places-height : {k rest : Terminals} {v : Where} → Places k v rest → (m o : ℕ) → o ≤ m → Shallow m o k → where_height v + 11 * o ≤ 11 * m + 7
-  Places-height anywhere m o h s =  omega arith
+  Places-height anywhere m o h s = omega arith
   Places-height (at x0) m o h s = let h0 = Reads-height x0 m o h s.1 in omega arith
   Places-height (within x0) m o h s = let h0 = Ranges-height x0 m o h s.1 in omega arith
 
@@ -103,7 +103,7 @@ mutual
   ReadsItems-height (item_then x0 x1) m o h s = let h0 = Reads-height x0 m o h s in let s1 = Reads-shallow x0 m o s in let h1 = ReadsItems-height x1 m o h s1.1 in omega arith
 
   pub ReadsSteps-height : {k rest : Terminals} {v : List OneStep} → ReadsSteps k v rest → (m o : ℕ) → o ≤ m → Shallow m o k → steps_height (steps_of v) + 11 * o ≤ 11 * m
-  ReadsSteps-height no_step m o h s =  omega arith
+  ReadsSteps-height no_step m o h s = omega arith
   ReadsSteps-height (name_step x0) m o h s = let h0 = ReadsSteps-height x0 m o h s.1.1 in omega arith
   ReadsSteps-height (index_step x0 x1) m o h s = let s1 = s in let lt : suc o ≤ m = s1.0 in let h0 = Reads-height x0 m (suc o) lt s1.1 in let s2 = Reads-shallow x0 m (suc o) s1.1 in let h1 = ReadsSteps-height x1 m o h s2.1 in omega arith
   ReadsSteps-height (empty_call x0) m o h s = let s1 = s in let lt : suc o ≤ m = s1.0 in let h0 = ReadsSteps-height x0 m o h s1.1.1 in omega arith

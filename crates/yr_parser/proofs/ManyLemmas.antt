@@ -1,5 +1,5 @@
 -- Items read one by one.
-use Rattle.std.proofs.Common.{◌≡◌, ℕ, zero, suc, ◌+◌, ◌-◌, ◌<◌, ◌≤◌, List, [], ◌∷◌, ◌++◌, map, Option, Some, None, Result, Ok, Err, refl, sym, ap, subst, ◌∙◌, arith, append_assoc, append-nil, MutBor, Vec, Global}
+use Rattle.std.proofs.Common.{◌≡◌, ℕ, suc, ◌+◌, ◌-◌, ◌<◌, ◌≤◌, List, [], ◌∷◌, ◌++◌, map, Option, Some, None, Result, Ok, Err, refl, sym, ap, subst, ◌∙◌, arith, append_assoc, append-nil, MutBor, Vec, Global}
 use Rattle.std.specs.Prelude.{option_map}
 use Rattle.yr_parser.specs.declared.fault.Fault.{Fault}
 use Rattle.yr_parser.specs.declared.fault.Fault.TheVariants as fault

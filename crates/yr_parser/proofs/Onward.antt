@@ -1,8 +1,7 @@
 -- One step of a reading function, where the grammar has it.
-use Rattle.std.proofs.Common.{◌≡◌, ℕ, zero, suc, ◌+◌, ◌<◌, ◌≤◌, Bool, true, false, List, [], ◌∷◌, length, Option, Some, None, if◌then◌else◌, refl, sym, subst, ap, ◌∙◌, arith}
+use Rattle.std.proofs.Common.{◌≡◌, ℕ, ◌<◌, true, false, List, [], ◌∷◌, length, Some, None, if◌then◌else◌, refl, ap, ◌∙◌, arith}
 use Rattle.yr_syntax.specs.declared.operator.Infix.{Infix}
 use Rattle.yr_syntax.specs.declared.operator.Infix.TheVariants as op
-use Rattle.yr_syntax.specs.declared.operator.PrefixOp.TheVariants as prefix
 use Rattle.yr_syntax.specs.declared.operator.Reader.{Reader}
 use Rattle.yr_syntax.specs.Condition.{Condition, Where, Asked, Domain, Bounds, SetTree, RegexTree, OneLink, OneStep, links_of, items_of, steps_of}
 use Rattle.yr_syntax.specs.Condition as tree
@@ -12,16 +11,15 @@ use Rattle.yr_parser.specs.declared.level.Level.{Level}
 use Rattle.yr_parser.specs.declared.level.Level.TheVariants.{Or, And, Equal, Rel, Bits, Bxor, Band, Shift, Sum, Prod}
 use Rattle.yr_parser.specs.declared.level.Entry.{Entry}
 use Rattle.yr_parser.specs.declared.level.Entry.TheVariants as entry
-use Rattle.yr_parser.specs.Terminals.{Terminals, Word, Number, Text, Regex, Hex, StringName, StringWild, CountName, PlaceName, LengthName, Read, Flag, Operator, Sign}
+use Rattle.yr_parser.specs.Terminals.{Terminals, Word, Regex, StringName, CountName, PlaceName, LengthName, Read, Operator, Sign}
 use Rattle.yr_parser.specs.Levels.{Part, level, not, test, unary, primary, level_of, operand, repeats}
-use Rattle.yr_parser.specs.Input.{Outcome, Parser, and_then, ◌>>=◌, ◌>>◌, ◌<$>◌, pure, first, tail, sees, eat, after, expect, many, same_sign}
+use Rattle.yr_parser.specs.Input.{Parser, and_then, ◌>>=◌, ◌<$>◌, pure, tail, sees, eat, after, expect, many, same_sign}
 use Rattle.yr_parser.specs.Reading as reading
 use Rattle.yr_parser.specs.Reading.{no_more, joins_at, link_by, next_link, chain_of, level_from, pair_of, pair_from, matches_from, regex_at, prefix_by, prefix_at, negates_at, count_at, count_by, string_at, test_by, counted_by, percent_by, sees_operator, same_operator, sees_percent_of, read_word, read_set, read_closed, range_from, read_range, next_item, items_from, read_items, read_call, read_index, read_field, step_other, step_index, next_step, path_from, read_reader, count_from, offset_from, length_from, read_path, primary_sign, primary_name, read_primary, read_unary, prod_from, sum_from, shift_from, band_from, bxor_from, bits_from, read_prod, read_sum, read_shift, read_band, read_bxor, read_bits, read_rel, rel_from, equal_rest, equal_from, place_at, place_in, read_place, found_from, of_from, read_count, read_body, over_from, over_brackets, read_over, for_of_from, for_in_from, read_for, percent_from, test_from, test_count, test_other, read_test, read_not, read_and, read_or, read_entry, cond_at}
-use Rattle.yr_parser.specs.Conditions.{one_link, Reads, Links, last, next}
-use Rattle.yr_parser.proofs.Outcomes.{bind, many-stop, many-more, eat-yes, eat-no, expect-on}
-use Rattle.yr_parser.proofs.Binding.{rank, binds, power, power-operand, joins_at-here, joins_at-none, next_link-none, sees-weaker, NoCount, Begins, IsTight, Links-no_count}
-use Rattle.yr_parser.proofs.SetSound.{after_comma}
-use Rattle.yr_parser.proofs.SetComplete.{comma-more, comma-done, Split, split-more, split-one}
+use Rattle.yr_parser.specs.Conditions.{one_link, Links, last, next}
+use Rattle.yr_parser.proofs.Outcomes.{bind, many-stop, eat-yes, eat-no, expect-on}
+use Rattle.yr_parser.proofs.Binding.{rank, binds, joins_at-here, next_link-none, sees-weaker, NoCount, Begins, Links-no_count}
+use Rattle.yr_parser.proofs.SetComplete.{Split}
 use Rattle.yr_parser.proofs.Steps.{unary_at, not_at}
 
 -- ---- levels

@@ -1,26 +1,24 @@
 -- Declarations of the grammar are read.
-use Rattle.std.proofs.Common.{◌≡◌, ℕ, zero, suc, ◌+◌, ◌<◌, ◌≤◌, Bool, true, false, List, [], ◌∷◌, length, Option, Some, None, if◌then◌else◌, refl, sym, subst, ap, ◌∙◌, arith}
-use Rattle.std.specs.Prelude.{ℤ, pos, ◌-ℤ◌}
-use Rattle.yr_syntax.specs.declared.operator.Infix.TheVariants as op
-use Rattle.yr_syntax.specs.Condition.{Condition, RegexTree}
+use Rattle.std.proofs.Common.{◌≡◌, ℕ, zero, suc, ◌<◌, ◌≤◌, Bool, true, false, List, [], ◌∷◌, length, Some, None, refl, sym, subst, ap, ◌∙◌, arith}
+use Rattle.std.specs.Prelude.{pos}
+use Rattle.yr_syntax.specs.Condition.{Condition}
 use Rattle.yr_syntax.specs.Declaration.{ModifierTree, BodyTree, StringTree, ValueTree, MetaTree, RuleTree, Declaration}
 use Rattle.yr_syntax.specs.Declaration as tree
 use Rattle.yr_parser.specs.declared.sign.Sign.TheVariants as sign
 use Rattle.yr_parser.specs.declared.level.Level.TheVariants as levels
 use Rattle.yr_parser.specs.declared.level.Entry.TheVariants as entries
-use Rattle.yr_parser.specs.Terminals.{Terminals, Word, Number, Text, Regex, Hex, StringName, Flag, Operator, Sign}
+use Rattle.yr_parser.specs.Terminals.{Terminals, Word, StringName, Sign}
 use Rattle.yr_parser.specs.Levels.{level}
 use Rattle.yr_parser.specs.Conditions.{Reads}
 use Rattle.yr_parser.specs.Shallow.{Shallow}
-use Rattle.yr_parser.specs.Input.{Outcome, Parser, and_then, ◌>>=◌, ◌>>◌, ◌<$>◌, pure, first, tail, sees, after, same_sign, eat, expect, many}
-use Rattle.yr_parser.specs.Reading.{no_more, read_word, sees_operator, same_operator, string_at, cond_at}
+use Rattle.yr_parser.specs.Input.{◌>>=◌, pure, sees, after, same_sign, expect, many}
+use Rattle.yr_parser.specs.Reading.{read_word, sees_operator, same_operator, string_at, cond_at}
 use Rattle.yr_parser.specs.Declarations.{Places, entry, Values, negative, truth, Metas, one_meta, meta_then, MetaPart, no_meta, metas, OneModifier, nocase, wide, ascii, fullword, hidden, xor_all, base64, base64_by, base64wide, base64wide_by, Modifiers, no_modifier, modifier_then, Bodies, regex, hex, Words, one_word, word_then, Tags, no_tag, tags, Flags, no_flag, global, private, global_private, private_global, OneString, string, Strings, string_then, StringPart, no_string, strings, OneRule, rule, OneDeclaration, import, a_rule}
 use Rattle.yr_parser.specs.Declarations as grammar
-use Rattle.yr_parser.specs.Ruling.{read_number, read_text, negative_value, read_value, read_meta, sees_word, next_meta, metas_from, meta_part, xor_range, xor_one, xor_by, xor_keys, xor_from, alphabet_text, alphabet_from, next_modifier, read_body_text, next_word, tags_from, read_tags, with_flags, global_flags, hidden_flags, private_flags, read_flags, string_from, read_string, next_string, next_string_by, strings_from, string_part, rule_condition, rule_from, read_rule, import_from, declaration_by, read_declaration}
+use Rattle.yr_parser.specs.Ruling.{read_number, read_text, negative_value, read_value, read_meta, sees_word, next_meta, metas_from, meta_part, xor_range, xor_one, xor_keys, xor_from, alphabet_text, alphabet_from, next_modifier, read_body_text, next_word, tags_from, read_tags, global_flags, hidden_flags, private_flags, read_flags, string_from, read_string, next_string, strings_from, string_part, rule_condition, rule_from, read_rule, import_from, declaration_by, read_declaration}
 use Rattle.yr_parser.proofs.Outcomes.{bind, many-stop, many-more, eat-yes, eat-no, expect-on}
 use Rattle.yr_parser.proofs.Shorter.{Reads-shorter}
 use Rattle.yr_parser.proofs.Complete.{read-complete}
-use Rattle.yr_parser.proofs.Onward.{done-read}
 
 -- ---- what is left is shorter, and nests no deeper
 
@@ -360,7 +358,7 @@ module _ (places : Places) where
       expect-on sign.Colon (read_string places >>= λ s. (λ k. many (next_string places) (length k) k) >>= λ ss. pure (s ∷ ss)) k
       ∙ bind (λ s. (λ k. many (next_string places) (length k) k) >>= λ ss. pure (s ∷ ss)) (string-complete x (subst Ends (sym e) (condition-ends rest)))
       ∙ bind (λ ss. pure (s ∷ ss))
-          (many-stop (next_string places) (length t) t (subst (λ (u : Terminals). next_string places u ≡ Some (None, u)) (sym e) (next_string-none rest)))
+      (many-stop (next_string places) (length t) t (subst (λ (u : Terminals). next_string places u ≡ Some (None, u)) (sym e) (next_string-none rest)))
   strings_from-is {t = t} (string_then {k = k} {more = more} {s = s} {ss = ss} x y) rest e =
       expect-on sign.Colon (read_string places >>= λ s. (λ k. many (next_string places) (length k) k) >>= λ ss. pure (s ∷ ss)) k
       ∙ bind (λ s. (λ k. many (next_string places) (length k) k) >>= λ ss. pure (s ∷ ss)) (string-complete x (strings-end y))
@@ -416,7 +414,7 @@ module _ (places : Places) where
       bind (rule_from places (suc m) file line) (flags-are f (Word w ∷ named) refl)
       ∙ expect-on sign.Rule _ (Word w ∷ named)
       ∙ bind (λ ts. expect sign.OpenBrace >>= λ _. meta_part >>= λ ms. string_part places >>= λ ss. rule_condition places (suc m) >>= λ c. pure (make (g, p) w ts ms ss c))
-          (tags-complete t (brace-no_colon tagged) (brace-no_word tagged))
+      (tags-complete t (brace-no_colon tagged) (brace-no_word tagged))
       ∙ expect-on sign.OpenBrace (meta_part >>= λ ms. string_part places >>= λ ss. rule_condition places (suc m) >>= λ c. pure (make (g, p) w ts ms ss c)) tagged
       ∙ bind (λ ms. string_part places >>= λ ss. rule_condition places (suc m) >>= λ c. pure (make (g, p) w ts ms ss c)) (meta_part-complete x d.no_word d.no_meta_here)
       ∙ bind (λ ss. rule_condition places (suc m) >>= λ c. pure (make (g, p) w ts ms ss c)) (string_part-complete y (Sign sign.Colon ∷ listed) refl)

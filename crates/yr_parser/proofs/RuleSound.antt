@@ -1,23 +1,22 @@
 -- Declarations that are read are in the grammar.
-use Rattle.std.proofs.Common.{◌≡◌, ℕ, zero, suc, Bool, true, false, List, [], ◌∷◌, length, Option, Some, None, if◌then◌else◌, refl, sym, subst, ap, ◌∙◌}
+use Rattle.std.proofs.Common.{◌≡◌, ℕ, suc, Bool, true, false, List, [], ◌∷◌, length, Option, Some, None, if◌then◌else◌, refl, sym, subst}
 use Rattle.std.specs.Prelude.{ℤ, pos, ◌-ℤ◌}
 use Rattle.yr_syntax.specs.declared.operator.Infix.TheVariants as op
-use Rattle.yr_syntax.specs.Condition.{Condition, RegexTree}
+use Rattle.yr_syntax.specs.Condition.{Condition}
 use Rattle.yr_syntax.specs.Declaration.{ModifierTree, BodyTree, StringTree, ValueTree, MetaTree, RuleTree, Declaration}
 use Rattle.yr_syntax.specs.Declaration as tree
-use Rattle.yr_parser.specs.declared.sign.Sign.{Sign as SignType}
 use Rattle.yr_parser.specs.declared.sign.Sign.TheVariants as sign
 use Rattle.yr_parser.specs.declared.level.Level.TheVariants as levels
 use Rattle.yr_parser.specs.declared.level.Entry.TheVariants as entries
 use Rattle.yr_parser.specs.Terminals.{Terminals, Word, Number, Text, Regex, Hex, StringName, Flag, Operator, Sign}
 use Rattle.yr_parser.specs.Levels.{level}
 use Rattle.yr_parser.specs.Conditions.{Reads}
-use Rattle.yr_parser.specs.Input.{Outcome, Parser, and_then, ◌>>=◌, ◌>>◌, ◌<$>◌, pure, first, tail, sees, eat, expect, many}
+use Rattle.yr_parser.specs.Input.{Parser, and_then, ◌>>=◌, ◌<$>◌, pure, tail, sees, expect, many}
 use Rattle.yr_parser.specs.Reading.{no_more, read_word, sees_operator, string_at, cond_at}
 use Rattle.yr_parser.specs.Declarations.{Places, entry, Values, negative, truth, Metas, one_meta, meta_then, MetaPart, no_meta, metas, OneModifier, nocase, wide, ascii, fullword, hidden, xor_all, base64, base64_by, base64wide, base64wide_by, Modifiers, no_modifier, modifier_then, Bodies, regex, hex, Words, one_word, word_then, Tags, no_tag, tags, Flags, no_flag, global, private, global_private, private_global, OneString, string, Strings, string_then, StringPart, no_string, strings, OneRule, rule, OneDeclaration, import, a_rule}
 use Rattle.yr_parser.specs.Declarations as grammar
 use Rattle.yr_parser.specs.Ruling.{read_number, read_text, negative_value, read_value, read_meta, sees_word, next_meta, metas_from, meta_part, xor_range, xor_one, xor_by, xor_keys, xor_from, alphabet_text, alphabet_from, next_modifier, read_body_text, next_word, tags_from, read_tags, with_flags, global_flags, hidden_flags, private_flags, read_flags, string_from, read_string, next_string, next_string_by, strings_from, string_part, rule_condition, rule_from, read_rule, import_from, declaration_by, read_declaration}
-use Rattle.yr_parser.proofs.Outcomes.{bind-some, some_is, done, sees-true, sees_operator-true, expect-then, eat-then, expect-end, Chain, nothing, onward, many-chain}
+use Rattle.yr_parser.proofs.Outcomes.{bind-some, done, sees-true, sees_operator-true, expect-then, eat-then, expect-end, Chain, nothing, onward, many-chain}
 use Rattle.yr_parser.proofs.SetSound.{some_some, no_some, no_none, none_rest}
 use Rattle.yr_parser.proofs.Sound.{word-then, cond_at-sound}
 
@@ -56,9 +55,9 @@ unfolding read_meta
 meta-sound k x e =
     word-then (λ w. expect sign.Assign >>= λ _. read_value >>= λ v. pure (entry w v)) x (λ t. MetaOne t x.0 x.1)
     (λ w. expect-then sign.Assign (read_value >>= λ v. pure (entry w v)) x (λ t. MetaOne (Word w ∷ t) x.0 x.1)
-        (λ rest h.
-        let a = bind-some (read_value rest) (λ v. pure (entry w v)) x h in
-        done (MetaOne (Word w ∷ Sign sign.Assign ∷ rest)) (entry w a.0.0) a.0.1 x a.2 (entered (value-sound rest a.0 a.1)))) k e
+    (λ rest h.
+    let a = bind-some (read_value rest) (λ v. pure (entry w v)) x h in
+    done (MetaOne (Word w ∷ Sign sign.Assign ∷ rest)) (entry w a.0.0) a.0.1 x a.2 (entered (value-sound rest a.0 a.1)))) k e
 
 -- one more of a list, where a word comes next
 module _ {A : Type 0} (item : Parser A) (one : Terminals → A → Terminals → Type 0) (sound : (k : Terminals) (x : A × Terminals) → item k ≡ Some x → one k x.0 x.1) where
@@ -85,7 +84,7 @@ metas_from-sound k x e =
     let a = bind-some (read_meta rest) (λ m. (λ k. many next_meta (length k) k) >>= λ ms. pure (m ∷ ms)) x h in
     let b = bind-some (many next_meta (length a.0.1) a.0.1) (λ ms. pure (a.0.0 ∷ ms)) x a.2 in
     let c = many-chain next_meta MetaOne (λ t mid y. by_word-reads read_meta MetaOne meta-sound t mid y (sees_word t))
-        (λ t mid. by_word-stops read_meta MetaOne meta-sound t mid (sees_word t)) (length a.0.1) a.0.1 b.0 b.1 in
+    (λ t mid. by_word-stops read_meta MetaOne meta-sound t mid (sees_word t)) (length a.0.1) a.0.1 b.0 b.1 in
     done (MetaPart (Sign sign.Meta ∷ Sign sign.Colon ∷ rest)) (a.0.0 ∷ b.0.0) b.0.1 x b.2 (metas (join_metas (meta-sound rest a.0 a.1) c))) k e
 
 meta_part-sound : (k : Terminals) (x : List MetaTree × Terminals) → meta_part k ≡ Some x → MetaPart k x.0 x.1
@@ -105,16 +104,16 @@ xor-sound n k false x is e =
 xor-sound n k true x is e =
     subst (λ (t : Terminals). OneModifier (Sign sign.Xor ∷ Sign sign.Open ∷ Number n ∷ t) x.0 x.1) (sym (sees_operator-true op.Subtract k is))
     (number-then (λ m. expect sign.Close >>= λ _. pure (tree.Xor n m)) x (λ t. OneModifier (Sign sign.Xor ∷ Sign sign.Open ∷ Number n ∷ Operator op.Subtract ∷ t) x.0 x.1)
-        (λ m. expect-then sign.Close (pure (tree.Xor n m)) x (λ t. OneModifier (Sign sign.Xor ∷ Sign sign.Open ∷ Number n ∷ Operator op.Subtract ∷ Number m ∷ t) x.0 x.1)
-            (λ rest h. done (OneModifier (Sign sign.Xor ∷ Sign sign.Open ∷ Number n ∷ Operator op.Subtract ∷ Number m ∷ Sign sign.Close ∷ rest)) (tree.Xor n m) rest x h grammar.xor_range))
-        (tail k) e)
+    (λ m. expect-then sign.Close (pure (tree.Xor n m)) x (λ t. OneModifier (Sign sign.Xor ∷ Sign sign.Open ∷ Number n ∷ Operator op.Subtract ∷ Number m ∷ t) x.0 x.1)
+    (λ rest h. done (OneModifier (Sign sign.Xor ∷ Sign sign.Open ∷ Number n ∷ Operator op.Subtract ∷ Number m ∷ Sign sign.Close ∷ rest)) (tree.Xor n m) rest x h grammar.xor_range))
+    (tail k) e)
 
 xor_from-sound : (k : Terminals) (x : ModifierTree × Terminals) → xor_from k ≡ Some x → OneModifier (Sign sign.Xor ∷ k) x.0 x.1
 unfolding xor_from xor_keys
 xor_from-sound k x e =
     eat-then sign.Open xor_keys (pure (tree.Xor (pos 0) (pos 255))) x (λ t. OneModifier (Sign sign.Xor ∷ t) x.0 x.1)
     (number-then (λ n k. xor_by (sees_operator op.Subtract k) n k) x (λ t. OneModifier (Sign sign.Xor ∷ Sign sign.Open ∷ t) x.0 x.1)
-        (λ n rest h. xor-sound n rest (sees_operator op.Subtract rest) x refl h))
+    (λ n rest h. xor-sound n rest (sees_operator op.Subtract rest) x refl h))
     (λ rest h. done (OneModifier (Sign sign.Xor ∷ rest)) (tree.Xor (pos 0) (pos 255)) rest x h xor_all) k e
 
 -- an alphabet, if there is one
@@ -127,8 +126,8 @@ unfolding alphabet_from alphabet_text
 alphabet-sound k x e =
     eat-then sign.Open alphabet_text (pure None) x (λ t. Alphabet t x.0 x.1)
     (text-then (λ t. expect sign.Close >>= λ _. pure (Some t)) x (λ t. Alphabet (Sign sign.Open ∷ t) x.0 x.1)
-        (λ t. expect-then sign.Close (pure (Some t)) x (λ u. Alphabet (Sign sign.Open ∷ Text t ∷ u) x.0 x.1)
-            (λ rest h. done (Alphabet (Sign sign.Open ∷ Text t ∷ Sign sign.Close ∷ rest)) (Some t) rest x h given)))
+    (λ t. expect-then sign.Close (pure (Some t)) x (λ u. Alphabet (Sign sign.Open ∷ Text t ∷ u) x.0 x.1)
+    (λ rest h. done (Alphabet (Sign sign.Open ∷ Text t ∷ Sign sign.Close ∷ rest)) (Some t) rest x h given)))
     (λ rest h. done (Alphabet rest) None rest x h by_default) k e
 
 base64-one : {k rest : Terminals} {a : Option (List ℕ)} → Alphabet k a rest → OneModifier (Sign sign.Base64 ∷ k) (tree.Base64 a) rest
@@ -198,7 +197,7 @@ tags-sound k x e =
     let a = bind-some (read_word rest) (λ w. (λ k. many next_word (length k) k) >>= λ ws. pure (w ∷ ws)) x h in
     let b = bind-some (many next_word (length a.0.1) a.0.1) (λ ws. pure (a.0.0 ∷ ws)) x a.2 in
     let c = many-chain next_word WordOne (λ t mid y. by_word-reads read_word WordOne word-sound t mid y (sees_word t))
-        (λ t mid. by_word-stops read_word WordOne word-sound t mid (sees_word t)) (length a.0.1) a.0.1 b.0 b.1 in
+    (λ t mid. by_word-stops read_word WordOne word-sound t mid (sees_word t)) (length a.0.1) a.0.1 b.0 b.1 in
     done (Tags (Sign sign.Colon ∷ rest)) (a.0.0 ∷ b.0.0) b.0.1 x b.2 (tags (join_words (word-sound rest a.0 a.1) c)))
     (λ rest h. done (Tags rest) [] rest x h no_tag) k e
 
@@ -210,13 +209,13 @@ unfolding read_flags global_flags private_flags hidden_flags
 flags-sound k x e =
     eat-then sign.Global global_flags private_flags x (λ t. FlagsAre t x.0 x.1)
     (eat-then sign.Private (with_flags true true) (with_flags true false) x (λ t. FlagsAre (Sign sign.Global ∷ t) x.0 x.1)
-        (λ rest h. done (FlagsAre (Sign sign.Global ∷ Sign sign.Private ∷ rest)) (true, true) rest x h global_private)
-        (λ rest h. done (FlagsAre (Sign sign.Global ∷ rest)) (true, false) rest x h global))
+    (λ rest h. done (FlagsAre (Sign sign.Global ∷ Sign sign.Private ∷ rest)) (true, true) rest x h global_private)
+    (λ rest h. done (FlagsAre (Sign sign.Global ∷ rest)) (true, false) rest x h global))
     (eat-then sign.Private hidden_flags (with_flags false false) x (λ t. FlagsAre t x.0 x.1)
-        (eat-then sign.Global (with_flags true true) (with_flags false true) x (λ t. FlagsAre (Sign sign.Private ∷ t) x.0 x.1)
-            (λ rest h. done (FlagsAre (Sign sign.Private ∷ Sign sign.Global ∷ rest)) (true, true) rest x h private_global)
-            (λ rest h. done (FlagsAre (Sign sign.Private ∷ rest)) (false, true) rest x h private))
-        (λ rest h. done (FlagsAre rest) (false, false) rest x h no_flag)) k e
+    (eat-then sign.Global (with_flags true true) (with_flags false true) x (λ t. FlagsAre (Sign sign.Private ∷ t) x.0 x.1)
+    (λ rest h. done (FlagsAre (Sign sign.Private ∷ Sign sign.Global ∷ rest)) (true, true) rest x h private_global)
+    (λ rest h. done (FlagsAre (Sign sign.Private ∷ rest)) (false, true) rest x h private))
+    (λ rest h. done (FlagsAre rest) (false, false) rest x h no_flag)) k e
 
 -- ---- strings
 
@@ -237,7 +236,7 @@ module _ (places : Places) where
       let c = many-chain next_modifier OneModifier (λ t mid y h. modifier-sound t (Some y, mid) h) (λ t mid h. modifier-sound t (None, mid) h) (length a.0.1) a.0.1 b.0 b.1 in
       done (OneString places (StringName w ∷ Sign sign.Assign ∷ rest)) (with_string line w a.0.0 b.0.0) b.0.1 x b.2
       (subst (λ (n : ℕ). OneString places (StringName w ∷ Sign sign.Assign ∷ rest) (with_string (places.line (suc n)) w a.0.0 b.0.0) b.0.1) same
-          (string (body-sound rest a.0 a.1) (join_modifiers c)))) k e refl
+      (string (body-sound rest a.0 a.1) (join_modifiers c)))) k e refl
 
   string-sound : (k : Terminals) (x : StringTree × Terminals) → read_string places k ≡ Some x → OneString places k x.0 x.1
   unfolding read_string string_at
@@ -289,15 +288,15 @@ module _ (places : Places) where
   condition-sound d k x e =
       expect-then sign.Condition (expect sign.Colon >>= λ _. cond_at d entries.Or >>= λ c. expect sign.CloseBrace >>= λ _. pure c) x (λ t. Condition' t x.0 x.1)
       (expect-then sign.Colon (cond_at d entries.Or >>= λ c. expect sign.CloseBrace >>= λ _. pure c) x (λ t. Condition' (Sign sign.Condition ∷ t) x.0 x.1)
-          (λ rest h.
-          let a = bind-some (cond_at d entries.Or rest) (λ c. expect sign.CloseBrace >>= λ _. pure c) x h in
-          let b = expect-end sign.CloseBrace a.0.0 x a.0.1 a.2 in
-          record {
-            from = rest;
-            begins = refl;
-            condition = subst (λ (c : Condition). Reads (level levels.Or) rest c (Sign sign.CloseBrace ∷ x.1)) b.1
-                (subst (λ (t : Terminals). Reads (level levels.Or) rest a.0.0 t) b.0 (cond_at-sound d entries.Or rest a.0 a.1));
-          })) k e
+      (λ rest h.
+      let a = bind-some (cond_at d entries.Or rest) (λ c. expect sign.CloseBrace >>= λ _. pure c) x h in
+      let b = expect-end sign.CloseBrace a.0.0 x a.0.1 a.2 in
+      record {
+        from = rest;
+        begins = refl;
+        condition = subst (λ (c : Condition). Reads (level levels.Or) rest c (Sign sign.CloseBrace ∷ x.1)) b.1
+            (subst (λ (t : Terminals). Reads (level levels.Or) rest a.0.0 t) b.0 (cond_at-sound d entries.Or rest a.0 a.1));
+      })) k e
 
   abbrev with_rule : (file line : ℕ) → Bool × Bool → List ℕ → List (List ℕ) → List MetaTree → List StringTree → Condition → RuleTree
   with_rule file line flags w ts ms ss c =
@@ -311,19 +310,19 @@ module _ (places : Places) where
       let line = places.line (length k) in
       expect-then sign.Rule _ x (λ t. FlagsAre k f t → OneRule places k x.0 x.1)
       (word-then (λ w. read_tags >>= λ ts. expect sign.OpenBrace >>= λ _. meta_part >>= λ ms. string_part places >>= λ ss. rule_condition places d >>= λ c. pure (with_rule file line f w ts ms ss c)) x
-          (λ t. FlagsAre k f (Sign sign.Rule ∷ t) → OneRule places k x.0 x.1)
-          (λ w k2 h r'.
-          let a = bind-some (read_tags k2) (λ ts. expect sign.OpenBrace >>= λ _. meta_part >>= λ ms. string_part places >>= λ ss. rule_condition places d >>= λ c. pure (with_rule file line f w ts ms ss c)) x h in
-          expect-then sign.OpenBrace (meta_part >>= λ ms. string_part places >>= λ ss. rule_condition places d >>= λ c. pure (with_rule file line f w a.0.0 ms ss c)) x
-          (λ t. Tags k2 a.0.0 t → OneRule places k x.0 x.1)
-          (λ k3 h' t.
-          let b = bind-some (meta_part k3) (λ ms. string_part places >>= λ ss. rule_condition places d >>= λ c. pure (with_rule file line f w a.0.0 ms ss c)) x h' in
-          let s = bind-some (string_part places b.0.1) (λ ss. rule_condition places d >>= λ c. pure (with_rule file line f w a.0.0 b.0.0 ss c)) x b.2 in
-          let n = bind-some (rule_condition places d s.0.1) (λ c. pure (with_rule file line f w a.0.0 b.0.0 s.0.0 c)) x s.2 in
-          let q = condition-sound d s.0.1 n.0 n.1 in
-          done (OneRule places k) (with_rule file line f w a.0.0 b.0.0 s.0.0 n.0.0) n.0.1 x n.2
-          (rule r' t (meta_part-sound k3 b.0 b.1) (subst (λ (u : Terminals). StringPart places b.0.1 s.0.0 u) q.begins (string_part-sound b.0.1 s.0 s.1)) q.condition))
-          a.0.1 a.2 (tags-sound k2 a.0 a.1))) k1 e r
+      (λ t. FlagsAre k f (Sign sign.Rule ∷ t) → OneRule places k x.0 x.1)
+      (λ w k2 h r'.
+      let a = bind-some (read_tags k2) (λ ts. expect sign.OpenBrace >>= λ _. meta_part >>= λ ms. string_part places >>= λ ss. rule_condition places d >>= λ c. pure (with_rule file line f w ts ms ss c)) x h in
+      expect-then sign.OpenBrace (meta_part >>= λ ms. string_part places >>= λ ss. rule_condition places d >>= λ c. pure (with_rule file line f w a.0.0 ms ss c)) x
+      (λ t. Tags k2 a.0.0 t → OneRule places k x.0 x.1)
+      (λ k3 h' t.
+      let b = bind-some (meta_part k3) (λ ms. string_part places >>= λ ss. rule_condition places d >>= λ c. pure (with_rule file line f w a.0.0 ms ss c)) x h' in
+      let s = bind-some (string_part places b.0.1) (λ ss. rule_condition places d >>= λ c. pure (with_rule file line f w a.0.0 b.0.0 ss c)) x b.2 in
+      let n = bind-some (rule_condition places d s.0.1) (λ c. pure (with_rule file line f w a.0.0 b.0.0 s.0.0 c)) x s.2 in
+      let q = condition-sound d s.0.1 n.0 n.1 in
+      done (OneRule places k) (with_rule file line f w a.0.0 b.0.0 s.0.0 n.0.0) n.0.1 x n.2
+      (rule r' t (meta_part-sound k3 b.0 b.1) (subst (λ (u : Terminals). StringPart places b.0.1 s.0.0 u) q.begins (string_part-sound b.0.1 s.0 s.1)) q.condition))
+      a.0.1 a.2 (tags-sound k2 a.0 a.1))) k1 e r
 
   rule-sound : (d : ℕ) (k : Terminals) (x : RuleTree × Terminals) → read_rule places d k ≡ Some x → OneRule places k x.0 x.1
   unfolding read_rule

@@ -1,12 +1,12 @@
 -- Sets of the grammar are read.
-use Rattle.std.proofs.Common.{◌≡◌, ℕ, zero, suc, ◌+◌, ◌<◌, ◌≤◌, Bool, true, false, List, [], ◌∷◌, length, Option, Some, None, if◌then◌else◌, refl, sym, subst, ap, ◌∙◌, arith}
+use Rattle.std.proofs.Common.{◌≡◌, ℕ, zero, suc, ◌≤◌, false, List, [], ◌∷◌, length, Some, None, refl, ap, ◌∙◌, arith}
 use Rattle.yr_syntax.specs.declared.operator.Infix.TheVariants as op
 use Rattle.yr_syntax.specs.Condition.{SetTree, ItemTree}
 use Rattle.yr_syntax.specs.Condition as tree
 use Rattle.yr_parser.specs.declared.sign.Sign.TheVariants as sign
 use Rattle.yr_parser.specs.Terminals.{Terminals, Word, StringName, StringWild, Operator, Sign}
 use Rattle.yr_parser.specs.Conditions.{named, named_by_front, StringItems, one_string, one_wild, string_then, wild_then, RuleItems, one_rule, one_front, rule_then, front_then, Sets, them, strings, rules}
-use Rattle.yr_parser.specs.Input.{Outcome, Parser, and_then, ◌>>=◌, ◌>>◌, ◌<$>◌, pure, sees, after, same_sign, tail, eat, expect, many, first}
+use Rattle.yr_parser.specs.Input.{Parser, ◌>>=◌, ◌<$>◌, pure, sees, same_sign, expect, many}
 use Rattle.yr_parser.specs.Reading.{no_more, read_string_item, string_item_at, next_string_item, read_string_items, read_word, rule_item_from, sees_operator, same_operator, read_rule_item, next_rule_item, read_rule_items, read_strings, read_rules, read_members, members_by, read_set}
 use Rattle.yr_parser.proofs.Outcomes.{bind, many-stop, many-more, eat-yes, eat-no, expect-on}
 use Rattle.yr_parser.proofs.SetSound.{after_comma}
@@ -36,13 +36,24 @@ pub record Split {A : Type 0} (item : Parser A) (k : Terminals) (xs : List A) (r
 abbrev pub split-more : {A : Type 0} (item : Parser A) (k k' rest : Terminals) (x : A) (xs : List A) → item k' ≡ Some (x, Sign sign.Comma ∷ k) → length (Sign sign.Comma ∷ k) ≤ length k'
     → Split item k xs rest → Split item k' (x ∷ xs) rest
 split-more item k k' rest x xs e short s = record {
-  x = x; others = s.x ∷ s.others; mid = Sign sign.Comma ∷ k; all = ap (λ ys. x ∷ ys) s.all; read = e; short = short;
+  x = x;
+  others = s.x ∷ s.others;
+  mid = Sign sign.Comma ∷ k;
+  all = ap (λ ys. x ∷ ys) s.all;
+  read = e;
+  short = short;
   more = comma-more item k s.mid rest s.x s.others s.read s.short s.more;
 }
 
 abbrev pub split-one : {A : Type 0} (item : Parser A) (k rest : Terminals) (x : A) → item k ≡ Some (x, rest) → length rest ≤ length k → sees sign.Comma rest ≡ false → Split item k (x ∷ []) rest
 split-one item k rest x e short ends = record {
-  x = x; others = []; mid = rest; all = refl; read = e; short = short; more = λ n h. comma-done item rest ends n;
+  x = x;
+  others = [];
+  mid = rest;
+  all = refl;
+  read = e;
+  short = short;
+  more = λ n h. comma-done item rest ends n;
 }
 
 -- ---- string items

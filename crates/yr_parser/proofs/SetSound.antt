@@ -1,12 +1,12 @@
 -- Sets that are read are in the grammar.
-use Rattle.std.proofs.Common.{◌≡◌, ℕ, zero, suc, Bool, true, false, List, [], ◌∷◌, length, Option, Some, None, if◌then◌else◌, refl, sym, subst, ap, ◌∙◌}
+use Rattle.std.proofs.Common.{◌≡◌, ℕ, Bool, true, false, List, [], ◌∷◌, length, Option, Some, None, if◌then◌else◌, refl, sym, subst, ap}
 use Rattle.yr_syntax.specs.declared.operator.Infix.TheVariants as op
 use Rattle.yr_syntax.specs.Condition.{SetTree, ItemTree}
 use Rattle.yr_syntax.specs.Condition as tree
 use Rattle.yr_parser.specs.declared.sign.Sign.TheVariants as sign
-use Rattle.yr_parser.specs.Terminals.{Terminals, Word, Number, Text, Regex, Hex, StringName, StringWild, CountName, PlaceName, LengthName, Read, Flag, Operator, Sign}
+use Rattle.yr_parser.specs.Terminals.{Terminals, Word, StringName, StringWild, Operator, Sign}
 use Rattle.yr_parser.specs.Conditions.{named, named_by_front, StringItems, one_string, one_wild, string_then, wild_then, RuleItems, one_rule, one_front, rule_then, front_then, Sets, them, strings, rules}
-use Rattle.yr_parser.specs.Input.{Outcome, Parser, and_then, ◌>>=◌, ◌<$>◌, pure, sees, tail, eat, expect, many, first}
+use Rattle.yr_parser.specs.Input.{Outcome, Parser, ◌>>=◌, ◌<$>◌, pure, tail, eat, expect, many}
 use Rattle.yr_parser.specs.Reading.{no_more, read_string_item, string_item_at, next_string_item, read_string_items, read_word, rule_item_from, sees_operator, read_rule_item, next_rule_item, read_rule_items, read_strings, read_rules, read_members, read_set}
 use Rattle.yr_parser.proofs.Outcomes.{bind-some, some_is, done, expect-then, eat-then, expect-end, sees_operator-true, Chain, nothing, onward, many-chain}
 
@@ -76,7 +76,7 @@ string_items-sound k x e =
     let a = bind-some (read_string_item k) (λ i. (λ k. many next_string_item (length k) k) >>= λ is. pure (i ∷ is)) x e in
     let b = bind-some (many next_string_item (length a.0.1) a.0.1) (λ is. pure (a.0.0 ∷ is)) x a.2 in
     let c = many-chain next_string_item (Comma StringItem) (comma-reads read_string_item StringItem string_item-sound)
-        (comma-stops read_string_item StringItem string_item-sound) (length a.0.1) a.0.1 b.0 b.1 in
+    (comma-stops read_string_item StringItem string_item-sound) (length a.0.1) a.0.1 b.0 b.1 in
     done (StringItems k) (a.0.0 ∷ b.0.0) b.0.1 x b.2 (join_strings (string_item-sound k a.0 a.1) c)
 
 -- ---- rule items
@@ -109,7 +109,7 @@ rule_items-sound k x e =
     let a = bind-some (read_rule_item k) (λ i. (λ k. many next_rule_item (length k) k) >>= λ is. pure (i ∷ is)) x e in
     let b = bind-some (many next_rule_item (length a.0.1) a.0.1) (λ is. pure (a.0.0 ∷ is)) x a.2 in
     let c = many-chain next_rule_item (Comma RuleItem) (comma-reads read_rule_item RuleItem rule_item-sound)
-        (comma-stops read_rule_item RuleItem rule_item-sound) (length a.0.1) a.0.1 b.0 b.1 in
+    (comma-stops read_rule_item RuleItem rule_item-sound) (length a.0.1) a.0.1 b.0 b.1 in
     done (RuleItems k) (a.0.0 ∷ b.0.0) b.0.1 x b.2 (join_rules (rule_item-sound k a.0 a.1) c)
 
 -- ---- sets

@@ -1,5 +1,5 @@
 -- What is left is shorter, and nests no deeper.
-use Rattle.std.proofs.Common.{◌≡◌, ℕ, zero, suc, ◌<◌, ◌≤◌, List, [], ◌∷◌, length, arith}
+use Rattle.std.proofs.Common.{ℕ, suc, ◌<◌, ◌≤◌, List, length, arith}
 use Rattle.yr_syntax.specs.Condition.{Condition, Where, Asked, Domain, SetTree, ItemTree, OneLink, OneStep}
 use Rattle.yr_parser.specs.declared.level.Level.{Level}
 use Rattle.yr_parser.specs.Terminals.{Terminals}
@@ -178,5 +178,3 @@ mutual
   ReadsSteps-shallow (index_step x0 x1) m o s = ReadsSteps-shallow x1 m o ((Reads-shallow x0 m (suc o) s.1).1)
   ReadsSteps-shallow (empty_call x0) m o s = ReadsSteps-shallow x0 m o s.1.1
   ReadsSteps-shallow (call_step x0 x1) m o s = ReadsSteps-shallow x1 m o ((ReadsItems-shallow x0 m (suc o) s.1).1)
-
-

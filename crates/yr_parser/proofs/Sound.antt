@@ -12,13 +12,13 @@ use Rattle.yr_parser.specs.declared.level.Level.{Level}
 use Rattle.yr_parser.specs.declared.level.Level.TheVariants.{Or, And, Equal, Rel, Bits, Bxor, Band, Shift, Sum, Prod}
 use Rattle.yr_parser.specs.declared.level.Entry.{Entry}
 use Rattle.yr_parser.specs.declared.level.Entry.TheVariants as entry
-use Rattle.yr_parser.specs.Terminals.{Terminals, Word, Number, Text, Regex, Hex, StringName, StringWild, CountName, PlaceName, LengthName, Read, Flag, Operator, Sign}
+use Rattle.yr_parser.specs.Terminals.{Terminals, Word, Number, Text, Regex, StringName, CountName, PlaceName, LengthName, Read, Flag, Operator, Sign}
 use Rattle.yr_parser.specs.Levels.{Part, level, not, test, unary, primary, level_of, operand, repeats}
 use Rattle.yr_parser.specs.Conditions.{one_link, Sets, Reads, one, chain, pair, matches, negated, is_defined, plain, found, of, for_of, for_in, compared, minus, flip, bare, brackets, number, text, truth, file_size, reads, count, count_in, offset, offset_at, len, len_at, path, Links, last, next, Counts, every, some, none, at_least, Quants, counts, percent, Places, anywhere, at, within, Ranges, from_to, Overs, over_range, over_list, over_path, ReadsItems, one_item, item_then, ReadsSteps, no_step, name_step, index_step, empty_call, call_step}
-use Rattle.yr_parser.specs.Input.{Outcome, Parser, and_then, ◌>>=◌, ◌>>◌, ◌<$>◌, pure, first, tail, sees, eat, after, expect, many}
+use Rattle.yr_parser.specs.Input.{Parser, and_then, ◌>>=◌, ◌<$>◌, pure, tail, sees, eat, expect, many}
 use Rattle.yr_parser.specs.Reading as reading
 use Rattle.yr_parser.specs.Reading.{no_more, joins_at, link_by, next_link, chain_of, level_from, pair_of, pair_from, matches_from, regex_at, prefix_by, prefix_at, negates_at, count_at, string_at, sees_operator, sees_percent_of, same_level, read_word, read_set, read_closed, range_from, read_range, next_item, items_from, read_items, read_call, read_index, read_field, step_other, step_index, next_step, path_from, read_reader, count_from, offset_from, length_from, read_path, primary_sign, primary_name, read_primary, read_unary, read_bits, read_rel, rel_from, equal_rest, equal_from, place_at, place_in, read_place, found_from, of_from, read_count, read_body, over_from, over_brackets, read_over, for_of_from, for_in_from, read_for, percent_from, percent_by, test_from, test_count, test_other, read_test, read_not, read_and, read_or, read_entry, cond_at}
-use Rattle.yr_parser.proofs.Outcomes.{bind-some, some_is, done, guarded, same_level-true, sees-true, sees_operator-true, expect-then, bind-then, eat-then, expect-end, Chain, nothing, onward, many-chain}
+use Rattle.yr_parser.proofs.Outcomes.{bind-some, some_is, done, guarded, same_level-true, sees-true, sees_operator-true, expect-then, eat-then, expect-end, Chain, nothing, onward, many-chain}
 use Rattle.yr_parser.proofs.SetSound.{some_some, no_some, no_none, none_rest, Comma, comma, comma-reads, comma-stops, set-sound}
 
 -- the parser reads what the part spells
@@ -68,7 +68,7 @@ module _ (l : Level) (p : Parser Condition) (sound : IsSound (operand l) p) wher
       let j = joins_at-some l k o is in
       subst (λ (y : OneLink). LinkOne l k y mid) s.0
       (subst (λ (t : Terminals). LinkOne l k (one_link o b.0.0) t) s.1
-          (subst (λ (t : Terminals). LinkOne l t (one_link o b.0.0) b.0.1) (sym j.1) (linked j.0 (sound (tail k) b.0 b.1))))
+      (subst (λ (t : Terminals). LinkOne l t (one_link o b.0.0) b.0.1) (sym j.1) (linked j.0 (sound (tail k) b.0 b.1))))
 
   link_by-stops : (k mid : Terminals) (j : Option Infix) → link_by p j k ≡ Some (None, mid) → k ≡ mid
   link_by-stops k mid None e = none_rest k mid e
@@ -151,7 +151,7 @@ module _ (inner : Entry → Parser Condition) (sound : (e : Entry) → IsSound (
   items_from-sound k0 k c x r e =
       let a = bind-some (many (next_item inner) (length k) k) (λ cs. expect sign.Close >>= λ _. pure (c ∷ cs)) x e in
       let ch = many-chain (next_item inner) (Comma ItemOne) (comma-reads (inner entry.Bits) ItemOne (sound entry.Bits))
-          (comma-stops (inner entry.Bits) ItemOne (sound entry.Bits)) (length k) k a.0 a.1 in
+      (comma-stops (inner entry.Bits) ItemOne (sound entry.Bits)) (length k) k a.0 a.1 in
       let b = expect-end sign.Close (c ∷ a.0.0) x a.0.1 a.2 in
       subst (λ (cs : List Condition). ReadsItems k0 cs (Sign sign.Close ∷ x.1)) b.1
       (subst (λ (t : Terminals). ReadsItems k0 (c ∷ a.0.0) t) b.0 (join_items r ch))
@@ -206,8 +206,8 @@ module _ (inner : Entry → Parser Condition) (sound : (e : Entry) → IsSound (
   step-sound k x e =
       eat-then sign.Dot (read_field inner) (step_index inner) x (λ t. StepSays t x.0 x.1) (λ rest h. field-sound rest x h)
       (eat-then sign.OpenBracket (read_index inner) (step_other inner) x (λ t. StepSays t x.0 x.1) (λ rest h. index-sound rest x h)
-          (eat-then sign.Open (read_call inner) no_more x (λ t. StepSays t x.0 x.1) (λ rest h. call-sound rest x h)
-              (λ rest h. done (StepSays rest) None rest x h refl))) k e
+      (eat-then sign.Open (read_call inner) no_more x (λ t. StepSays t x.0 x.1) (λ rest h. call-sound rest x h)
+      (λ rest h. done (StepSays rest) None rest x h refl))) k e
 
   path_from-sound : (w : List ℕ) (k : Terminals) (x : List OneStep × Terminals) → path_from inner w k ≡ Some x
       → (ss : List OneStep) × (tree.Name w ∷ ss ≡ x.0) × ReadsSteps k ss x.1
@@ -269,7 +269,7 @@ module _ (inner : Entry → Parser Condition) (sound : (e : Entry) → IsSound (
       eat-then sign.FileSize (pure tree.FileSize) (expect sign.Open >>= λ _. read_closed inner entry.Or sign.Close) x (λ t. Reads primary t x.0 x.1)
       (λ rest h. done (Reads primary (Sign sign.FileSize ∷ rest)) tree.FileSize rest x h file_size)
       (expect-then sign.Open (read_closed inner entry.Or sign.Close) x (λ t. Reads primary t x.0 x.1)
-          (λ rest h. brackets (closed-sound entry.Or sign.Close rest x h))) k e
+      (λ rest h. brackets (closed-sound entry.Or sign.Close rest x h))) k e
 
   primary-sound : IsSound primary (read_primary inner)
   unfolding read_primary primary_name
@@ -398,10 +398,10 @@ module _ (inner : Entry → Parser Condition) (sound : (e : Entry) → IsSound (
       let a = bind-some (read_bits inner rest) (λ c. pure (tree.At c)) x h in
       done (Places (Sign sign.At ∷ rest)) (tree.At a.0.0) a.0.1 x a.2 (at (bits-sound rest a.0 a.1)))
       (eat-then sign.In ((λ (r : Bounds). tree.Within r.low r.high) <$> read_range inner) (pure tree.Anywhere) x (λ t. Places t x.0 x.1)
-          (λ rest h.
-          let a = bind-some (read_range inner rest) (λ (r : Bounds). pure (tree.Within r.low r.high)) x h in
-          done (Places (Sign sign.In ∷ rest)) (tree.Within a.0.0.low a.0.0.high) a.0.1 x a.2 (within (range-sound rest a.0 a.1)))
-          (λ rest h. done (Places rest) tree.Anywhere rest x h anywhere)) k e
+      (λ rest h.
+      let a = bind-some (read_range inner rest) (λ (r : Bounds). pure (tree.Within r.low r.high)) x h in
+      done (Places (Sign sign.In ∷ rest)) (tree.Within a.0.0.low a.0.0.high) a.0.1 x a.2 (within (range-sound rest a.0 a.1)))
+      (λ rest h. done (Places rest) tree.Anywhere rest x h anywhere)) k e
 
   of_from-sound : (k more : Terminals) (q : Asked) (x : Condition × Terminals) → Quants k q (Sign sign.Of ∷ more) → of_from inner q more ≡ Some x → Reads test k x.0 x.1
   unfolding of_from
@@ -434,7 +434,7 @@ module _ (inner : Entry → Parser Condition) (sound : (e : Entry) → IsSound (
   body-sound k x e =
       expect-then sign.Colon (expect sign.Open >>= λ _. read_closed inner entry.Or sign.Close) x (λ t. Body t x.0 x.1)
       (expect-then sign.Open (read_closed inner entry.Or sign.Close) x (λ t. Body (Sign sign.Colon ∷ t) x.0 x.1)
-          (λ rest h. record { from = rest; begins = refl; body = closed-sound entry.Or sign.Close rest x h })) k e
+      (λ rest h. record { from = rest; begins = refl; body = closed-sound entry.Or sign.Close rest x h })) k e
 
   over_from-sound : (k0 k : Terminals) (c : Condition) (x : Domain × Terminals) → Reads (level Bits) k0 c k → over_from inner c k ≡ Some x → Overs (Sign sign.Open ∷ k0) x.0 x.1
   unfolding over_from
@@ -481,13 +481,13 @@ module _ (inner : Entry → Parser Condition) (sound : (e : Entry) → IsSound (
       word-then (λ w. expect sign.In >>= λ _. read_over inner >>= λ o. read_body inner >>= λ c. pure (tree.ForIn q w o c)) x
       (λ t. Counts k q t → Reads test (Sign sign.For ∷ k) x.0 x.1)
       (λ w. expect-then sign.In (read_over inner >>= λ o. read_body inner >>= λ c. pure (tree.ForIn q w o c)) x
-          (λ t. Counts k q (Word w ∷ t) → Reads test (Sign sign.For ∷ k) x.0 x.1)
-          (λ rest h r'.
-          let a = bind-some (read_over inner rest) (λ o. read_body inner >>= λ c. pure (tree.ForIn q w o c)) x h in
-          let b = bind-some (read_body inner a.0.1) (λ c. pure (tree.ForIn q w a.0.0 c)) x a.2 in
-          let d = body-sound a.0.1 b.0 b.1 in
-          done (Reads test (Sign sign.For ∷ k)) (tree.ForIn q w a.0.0 b.0.0) b.0.1 x b.2
-          (for_in r' (subst (λ (t : Terminals). Overs rest a.0.0 t) d.begins (over-sound rest a.0 a.1)) d.body))) more e r
+      (λ t. Counts k q (Word w ∷ t) → Reads test (Sign sign.For ∷ k) x.0 x.1)
+      (λ rest h r'.
+      let a = bind-some (read_over inner rest) (λ o. read_body inner >>= λ c. pure (tree.ForIn q w o c)) x h in
+      let b = bind-some (read_body inner a.0.1) (λ c. pure (tree.ForIn q w a.0.0 c)) x a.2 in
+      let d = body-sound a.0.1 b.0 b.1 in
+      done (Reads test (Sign sign.For ∷ k)) (tree.ForIn q w a.0.0 b.0.0) b.0.1 x b.2
+      (for_in r' (subst (λ (t : Terminals). Overs rest a.0.0 t) d.begins (over-sound rest a.0 a.1)) d.body))) more e r
 
   for-sound : (k : Terminals) (x : Condition × Terminals) → read_for inner k ≡ Some x → Reads test (Sign sign.For ∷ k) x.0 x.1
   unfolding read_for

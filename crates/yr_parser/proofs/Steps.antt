@@ -1,5 +1,5 @@
 -- Prefix operators, one at a time.
-use Rattle.std.proofs.Common.{◌≡◌, ℕ, ◌<◌, List, [], ◌∷◌, length, Option, Some, None, refl, arith}
+use Rattle.std.proofs.Common.{◌≡◌, ◌<◌, [], ◌∷◌, length, Some, refl, arith}
 use Rattle.yr_syntax.specs.declared.operator.PrefixOp.{PrefixOp}
 use Rattle.yr_syntax.specs.Condition.{Condition}
 use Rattle.yr_parser.specs.declared.level.Entry.{Entry}

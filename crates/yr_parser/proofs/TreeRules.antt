@@ -12,36 +12,69 @@ pub tree_of-LengthAt : (name : Vec ℕ Global) (index : Box c.Cond Global) → t
 tree_of-LengthAt name index = tree_of-Length name (Some index)
 
 pub ruleset made_prefix = (tree_of-Prefix)
+
 pub ruleset made_chain = (tree_of-Chain)
+
 pub ruleset made_matches = (tree_of-Matches)
+
 pub ruleset bounds_of_made = (bounds_of-same)
+
 pub ruleset made_read = (tree_of-Read)
+
 pub ruleset made_count = (tree_of-Count)
+
 pub ruleset made_offsetat = (tree_of-OffsetAt)
+
 pub ruleset made_offset = (tree_of-Offset)
+
 pub ruleset made_lengthat = (tree_of-LengthAt)
+
 pub ruleset made_length = (tree_of-Length)
+
 pub ruleset made_number = (tree_of-Number)
+
 pub ruleset made_text = (tree_of-Text)
+
 pub ruleset made_flag = (tree_of-Flag)
+
 pub ruleset made_filesize = (tree_of-FileSize)
+
 pub ruleset made_path = (tree_of-Path)
+
 pub ruleset made_found = (tree_of-Found)
+
 pub ruleset made_of = (tree_of-Of)
+
 pub ruleset made_forof = (tree_of-ForOf)
+
 pub ruleset made_forin = (tree_of-ForIn)
+
 pub ruleset asked_all = (asked_of-All)
+
 pub ruleset asked_any = (asked_of-Any)
+
 pub ruleset asked_nil = (asked_of-Nil)
+
 pub ruleset asked_number = (asked_of-Number)
+
 pub ruleset asked_percent = (asked_of-Percent)
+
 pub ruleset placed_anywhere = (where_of-Anywhere)
+
 pub ruleset placed_at = (where_of-At)
+
 pub ruleset placed_within = (where_of-Within)
+
 pub ruleset over_range = (domain_of-Range)
+
 pub ruleset over_list = (domain_of-List)
+
 pub ruleset over_path = (domain_of-Path)
+
 pub ruleset step_name = (step_of-Name)
+
 pub ruleset step_index = (step_of-Index)
+
 pub ruleset step_call = (step_of-Call)
+
 pub ruleset link_of_made = (link_of-same)

@@ -1,15 +1,14 @@
 -- Declarations one after another: there is one reading, and the answers exclude one another.
-use Rattle.std.proofs.Common.{◌≡◌, ◌≢◌, ℕ, zero, suc, ◌+◌, ◌<◌, ◌≤◌, Bool, true, false, List, [], ◌∷◌, ◌++◌, length, Option, Some, None, Result, Ok, Err, refl, sym, ap, subst, ◌∙◌, arith}
+use Rattle.std.proofs.Common.{◌≡◌, ◌≢◌, ℕ, ◌+◌, ◌<◌, false, List, [], ◌∷◌, ◌++◌, length, Some, None, refl, sym, ap, subst, ◌∙◌, arith}
 use Rattle.yr_syntax.specs.Declaration.{Declaration}
 use Rattle.yr_parser.specs.declared.sign.Sign.TheVariants as sign
 use Rattle.yr_parser.specs.Terminals.{Terminals, Text, Sign}
-use Rattle.yr_parser.specs.Shallow.{Shallow}
 use Rattle.yr_parser.specs.Depth.{IsTooDeep, deep_from}
 use Rattle.yr_parser.specs.Declarations.{Places, OneDeclaration, ReadsDeclarations, end, declaration_then}
 use Rattle.yr_parser.specs.Ruling.{read_declaration}
 use Rattle.yr_parser.specs.Refusals.{IsSyntax, NestsTooDeep, OneAnswer}
 use Rattle.yr_parser.proofs.Outcomes.{some_is}
-use Rattle.yr_parser.proofs.Deep.{Shallow-always, deep-shallow, test-false, test-true}
+use Rattle.yr_parser.proofs.Deep.{Shallow-always, deep-shallow}
 use Rattle.yr_parser.proofs.RuleSound.{declaration-sound}
 use Rattle.yr_parser.proofs.RuleComplete.{declaration-complete, declaration-shorter}
 

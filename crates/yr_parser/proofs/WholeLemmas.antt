@@ -1,14 +1,13 @@
 -- What a function that reads a declaration ensures.
-use Rattle.std.proofs.Common.{◌≡◌, ℕ, ◌+◌, ◌<◌, Bool, true, false, List, [], ◌∷◌, ◌++◌, map, length, Option, Some, None, suc, Result, Ok, Err, refl, sym, ap, subst, ◌∙◌, arith}
+use Rattle.std.proofs.Common.{◌≡◌, ℕ, ◌+◌, ◌<◌, Bool, true, false, List, [], ◌∷◌, ◌++◌, map, length, suc, Result, Ok, Err, refl, sym, ap, subst, ◌∙◌}
 use Rattle.std.specs.Prelude.{IfOk, IsErrOf}
 use Rattle.yr_syntax.specs.declared.declaration.Decl.{Decl}
 use Rattle.yr_syntax.specs.Declaration.{Declaration, declaration_of}
 use Rattle.yr_parser.specs.declared.fault.Fault.{Fault}
 use Rattle.yr_parser.specs.declared.fault.Fault.TheVariants as fault
-use Rattle.yr_parser.specs.declared.sign.Sign.TheVariants as sign
-use Rattle.yr_parser.specs.Terminals.{Terminals, Text, Sign}
+use Rattle.yr_parser.specs.Terminals.{Terminals}
 use Rattle.yr_parser.specs.Input.{Gives}
-use Rattle.yr_parser.specs.Depth.{IsTooDeep, deep_from}
+use Rattle.yr_parser.specs.Depth.{deep_from}
 use Rattle.yr_parser.specs.Declarations.{Places, OneDeclaration, import, a_rule, ReadsDeclarations}
 use Rattle.yr_parser.specs.Ruling.{read_declaration}
 use Rattle.yr_parser.specs.Refusals.{IsSyntax, NestsTooDeep}
@@ -57,13 +56,26 @@ smaller places more rest d o = declaration-shorter places o
 pub is-deep : (places : Places) (k rest : Terminals) (ds : List Decl) (n f l left : ℕ) → ReadsDeclarations places k (map declaration_of ds) rest → n ≡ length ds → left ≡ length rest → 0 < left
     → f ≡ places.file left → l ≡ places.line left → deep_from 0 0 rest ≡ true → NestsTooDeep places k (n + 1) f l
 is-deep places k rest ds n f l left r e h some p q deep = record {
-  declarations = map declaration_of ds; rest = rest; before = r; counted = ap (λ i. i + 1) (e ∙ sym (map-many ds)); in_file = p ∙ ap places.file h; on_line = q ∙ ap places.line h;
-  some = not-empty rest (subst (λ (i : ℕ). 0 < i) h some); deep = test-true rest deep;
+  declarations = map declaration_of ds;
+  rest = rest;
+  before = r;
+  counted = ap (λ i. i + 1) (e ∙ sym (map-many ds));
+  in_file = p ∙ ap places.file h;
+  on_line = q ∙ ap places.line h;
+  some = not-empty rest (subst (λ (i : ℕ). 0 < i) h some);
+  deep = test-true rest deep;
 }
 
 pub is-syntax : (places : Places) (k rest : Terminals) (ds : List Decl) (n f l left : ℕ) → ReadsDeclarations places k (map declaration_of ds) rest → n ≡ length ds → left ≡ length rest → 0 < left
     → f ≡ places.file left → l ≡ places.line left → deep_from 0 0 rest ≡ false → ((d : Declaration) (more : Terminals) → OneDeclaration places rest d more → ⊥) → IsSyntax places k (n + 1) f l
 is-syntax places k rest ds n f l left r e h some p q deep none = record {
-  declarations = map declaration_of ds; rest = rest; before = r; counted = ap (λ i. i + 1) (e ∙ sym (map-many ds)); in_file = p ∙ ap places.file h; on_line = q ∙ ap places.line h;
-  some = not-empty rest (subst (λ (i : ℕ). 0 < i) h some); shallow = test-false rest deep; none = none;
+  declarations = map declaration_of ds;
+  rest = rest;
+  before = r;
+  counted = ap (λ i. i + 1) (e ∙ sym (map-many ds));
+  in_file = p ∙ ap places.file h;
+  on_line = q ∙ ap places.line h;
+  some = not-empty rest (subst (λ (i : ℕ). 0 < i) h some);
+  shallow = test-false rest deep;
+  none = none;
 }

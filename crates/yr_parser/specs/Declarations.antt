@@ -1,6 +1,6 @@
 -- The grammar of declarations ('Writing YARA rules'). Each relation says that the terminals k begin with the part, that its tree is the
 -- one given, and that the terminals rest follow it. There is one case for each alternative.
-use Rattle.std.specs.Prelude.{◌≡◌, ℕ, ℤ, pos, ◌-ℤ◌, Bool, true, false, List, [], ◌∷◌, length, Option, Some, None}
+use Rattle.std.specs.Prelude.{ℕ, ℤ, pos, ◌-ℤ◌, Bool, true, false, List, [], ◌∷◌, length, Some, None}
 use Rattle.yr_syntax.specs.declared.operator.Infix.TheVariants as op
 use Rattle.yr_syntax.specs.Condition.{Condition, RegexTree}
 use Rattle.yr_syntax.specs.Declaration.{ModifierTree, BodyTree, StringTree, ValueTree, MetaTree, RuleTree, Declaration}

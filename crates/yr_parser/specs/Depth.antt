@@ -1,5 +1,5 @@
 -- How deep brackets nest, and how long prefix operators run.
-use Rattle.std.specs.Prelude.{◌≡◌, ℕ, zero, suc, ◌<◌, ◌⊎◌, Bool, true, false, if◌then◌else◌, nat_le, ◌&&◌, List, [], ◌∷◌, ◌++◌, length, take, fold}
+use Rattle.std.specs.Prelude.{◌≡◌, ℕ, zero, suc, ◌<◌, ◌⊎◌, Bool, true, false, if◌then◌else◌, nat_le, ◌&&◌, [], ◌∷◌, ◌++◌, length, take, fold}
 use Rattle.yr_syntax.specs.declared.operator.Infix.TheVariants as op
 use Rattle.yr_parser.specs.declared.sign.Sign.TheVariants as sign
 use Rattle.yr_parser.specs.Terminals.{Terminal, Terminals, Operator, Sign}

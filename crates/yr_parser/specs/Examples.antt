@@ -1,5 +1,5 @@
 -- Small conditions, on which the grammar is tried.
-use Rattle.std.specs.Prelude.{◌≡◌, ℕ, pos, true, false, List, [], ◌∷◌, codes}
+use Rattle.std.specs.Prelude.{pos, [], ◌∷◌, codes}
 use Rattle.yr_syntax.specs.declared.operator.Infix.TheVariants as op
 use Rattle.yr_syntax.specs.declared.operator.PrefixOp.TheVariants as prefix
 use Rattle.yr_syntax.specs.declared.operator.Reader.TheVariants as reader
@@ -7,9 +7,9 @@ use Rattle.yr_syntax.specs.Condition.{Condition}
 use Rattle.yr_syntax.specs.Condition as tree
 use Rattle.yr_parser.specs.declared.sign.Sign.TheVariants as sign
 use Rattle.yr_parser.specs.declared.level.Level.TheVariants as levels
-use Rattle.yr_parser.specs.Terminals.{Terminals, Word, Number, Text, Regex, StringName, StringWild, CountName, PlaceName, LengthName, Read, Flag, Operator, Sign}
+use Rattle.yr_parser.specs.Terminals.{Terminals, Word, Number, Text, StringName, StringWild, CountName, PlaceName, Read, Operator, Sign}
 use Rattle.yr_parser.specs.Levels.{level}
-use Rattle.yr_parser.specs.Conditions.{Reads, named, named_by_front}
+use Rattle.yr_parser.specs.Conditions.{Reads, named_by_front}
 
 -- the terminals, up to a closing brace, spell the condition
 abbrev pub Spells : Terminals → Condition → Type 0
@@ -62,11 +62,11 @@ abbrev pub mixed_tree : Condition
 mixed_tree =
     tree.Chain (tree.Prefix prefix.Not (tree.Found (codes "a") (tree.Within (tree.Number (pos 0)) (tree.Count (codes "b")))))
     (tree.link op.And
-        (tree.Chain
-            (tree.Chain (tree.OffsetAt (codes "c") (tree.Number (pos 1)))
-                (tree.link op.Add (tree.Chain (tree.Number (pos 2)) (tree.link op.Multiply (tree.Number (pos 3)) tree.no_link)) tree.no_link))
-            (tree.link op.Less (tree.Read reader.Uint16 (tree.Number (pos 0))) tree.no_link))
-        tree.no_link)
+    (tree.Chain
+    (tree.Chain (tree.OffsetAt (codes "c") (tree.Number (pos 1)))
+    (tree.link op.Add (tree.Chain (tree.Number (pos 2)) (tree.link op.Multiply (tree.Number (pos 3)) tree.no_link)) tree.no_link))
+    (tree.link op.Less (tree.Read reader.Uint16 (tree.Number (pos 0))) tree.no_link))
+    tree.no_link)
 
 -- 50% 2 of them
 abbrev pub percent_count : Terminals

@@ -1,7 +1,6 @@
 -- The forms of terminals, which the type of gathered tokens keeps.
-use Rattle.std.specs.Prelude.{List}
 use Rattle.yr_syntax.specs.Forms.{Each, IsWordName, IsName}
-use Rattle.yr_parser.specs.Terminals.{Terminal, Terminals, Word, Number, Text, Regex, Hex, StringName, StringWild, CountName, PlaceName, LengthName, Read, Flag, Operator, Sign}
+use Rattle.yr_parser.specs.Terminals.{Terminal, Terminals, Word, StringName, StringWild, CountName, PlaceName, LengthName}
 
 abbrev pub IsGood : Terminal → Type 0
 IsGood (Word w) = IsWordName w

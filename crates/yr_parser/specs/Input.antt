@@ -1,11 +1,11 @@
 -- The steps that every reading function is made of.
-use Rattle.std.specs.Prelude.{◌≡◌, ℕ, zero, suc, Bool, true, false, if◌then◌else◌, List, [], ◌∷◌, Option, Some, None, Result, Ok, Err}
+use Rattle.std.specs.Prelude.{◌≡◌, ℕ, zero, suc, Bool, false, if◌then◌else◌, List, [], ◌∷◌, Option, Some, None, Result, Ok, Err}
 use denote.Enum.Bare.{sameb}
 use Rattle.yr_parser.specs.contracts.sign.Sign.{the_type}
 use Rattle.yr_parser.specs.declared.sign.Sign.{Sign as SignType}
 use Rattle.yr_parser.specs.declared.fault.Fault.{Fault}
 use Rattle.yr_parser.specs.declared.fault.Fault.TheVariants.{NoMemory, Syntax}
-use Rattle.yr_parser.specs.Terminals.{Terminal, Terminals, Word, Number, Text, Regex, Hex, StringName, StringWild, CountName, PlaceName, LengthName, Read, Flag, Operator, Sign}
+use Rattle.yr_parser.specs.Terminals.{Terminal, Terminals, Sign}
 
 -- `==` on signs
 unfoldable pub same_sign : SignType → SignType → Bool

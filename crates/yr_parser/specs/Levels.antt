@@ -1,5 +1,5 @@
 -- The levels of operators ('Writing YARA rules', Conditions, the table of precedence).
-use Rattle.std.specs.Prelude.{Bool, true, false, Option, Some, None}
+use Rattle.std.specs.Prelude.{Bool, true, false}
 use Rattle.yr_syntax.specs.declared.operator.Infix.{Infix}
 use Rattle.yr_syntax.specs.declared.operator.Infix.TheVariants as op
 use Rattle.yr_parser.specs.declared.level.Level.{Level}

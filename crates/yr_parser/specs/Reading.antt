@@ -1,5 +1,5 @@
 -- Reading a condition from left to right, one function for each part. It serves the proof; no public clause cites it.
-use Rattle.std.specs.Prelude.{◌≡◌, ℕ, zero, suc, ℤ, Bool, true, false, List, [], ◌∷◌, length, Option, Some, None, if◌then◌else◌}
+use Rattle.std.specs.Prelude.{ℕ, zero, suc, Bool, true, false, List, [], ◌∷◌, length, Option, Some, None, if◌then◌else◌}
 use denote.Enum.Bare.{sameb}
 use Rattle.yr_syntax.specs.declared.operator.Infix.{Infix}
 use Rattle.yr_syntax.specs.declared.operator.Infix.TheVariants as op
@@ -16,10 +16,10 @@ use Rattle.yr_parser.specs.declared.level.Entry.{Entry}
 use Rattle.yr_parser.specs.declared.level.Entry.TheVariants as entry
 use Rattle.yr_parser.specs.contracts.level.Level.{the_type}
 use Rattle.yr_syntax.specs.contracts.operator.Infix.{the_type as infix_type}
-use Rattle.yr_parser.specs.Terminals.{Terminal, Terminals, Word, Number, Text, Regex, Hex, StringName, StringWild, CountName, PlaceName, LengthName, Read, Flag, Operator, Sign}
-use Rattle.yr_parser.specs.Levels.{Part, level, not, test, unary, primary, level_of, operand}
+use Rattle.yr_parser.specs.Terminals.{Terminal, Terminals, Word, Number, Text, Regex, StringName, StringWild, CountName, PlaceName, LengthName, Read, Flag, Operator, Sign}
+use Rattle.yr_parser.specs.Levels.{level_of, operand}
 use Rattle.yr_parser.specs.Conditions.{one_link, named, named_by_front}
-use Rattle.yr_parser.specs.Input.{Outcome, Parser, and_then, ◌>>=◌, ◌>>◌, ◌<$>◌, pure, first, tail, sees, eat, expect, many, same_sign}
+use Rattle.yr_parser.specs.Input.{Outcome, Parser, and_then, ◌>>=◌, ◌>>◌, ◌<$>◌, pure, first, tail, sees, eat, expect, many}
 
 -- ---- what the next terminal is
 

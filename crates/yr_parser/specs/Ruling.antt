@@ -1,5 +1,5 @@
 -- Reading declarations from left to right, one function for each part. It serves the proof; no public clause cites it.
-use Rattle.std.specs.Prelude.{◌≡◌, ℕ, ℤ, pos, ◌-ℤ◌, Bool, true, false, List, [], ◌∷◌, length, Option, Some, None, if◌then◌else◌}
+use Rattle.std.specs.Prelude.{ℕ, ℤ, pos, ◌-ℤ◌, Bool, true, false, List, [], ◌∷◌, length, Option, Some, None, if◌then◌else◌}
 use Rattle.yr_syntax.specs.declared.operator.Infix.TheVariants as op
 use Rattle.yr_syntax.specs.Condition.{Condition}
 use Rattle.yr_syntax.specs.Declaration.{ModifierTree, BodyTree, StringTree, ValueTree, MetaTree, RuleTree, Declaration}
@@ -7,8 +7,8 @@ use Rattle.yr_syntax.specs.Declaration as tree
 use Rattle.yr_parser.specs.declared.sign.Sign.{Sign as SignType}
 use Rattle.yr_parser.specs.declared.sign.Sign.TheVariants as sign
 use Rattle.yr_parser.specs.declared.level.Entry.TheVariants as entries
-use Rattle.yr_parser.specs.Terminals.{Terminal, Terminals, Word, Number, Text, Regex, Hex, StringName, Flag, Operator, Sign}
-use Rattle.yr_parser.specs.Input.{Outcome, Parser, and_then, ◌>>=◌, ◌>>◌, ◌<$>◌, pure, first, tail, sees, eat, expect, many}
+use Rattle.yr_parser.specs.Terminals.{Terminal, Terminals, Word, Number, Text, Regex, Hex, Flag, Operator, Sign}
+use Rattle.yr_parser.specs.Input.{Parser, and_then, ◌>>=◌, ◌>>◌, ◌<$>◌, pure, first, tail, sees, eat, expect, many}
 use Rattle.yr_parser.specs.Reading.{no_more, taken, read_word, sees_operator, string_at, cond_at}
 use Rattle.yr_parser.specs.Declarations.{Places, entry}
 

@@ -1,5 +1,5 @@
 -- Brackets that nest no deeper than a limit, which serves the proof.
-use Rattle.std.specs.Prelude.{ℕ, ◌≤◌, Bool, true, false, List, [], ◌∷◌}
+use Rattle.std.specs.Prelude.{ℕ, ◌≤◌, Bool, true, false, [], ◌∷◌}
 use Rattle.yr_parser.specs.Terminals.{Terminals}
 use Rattle.yr_parser.specs.Depth.{is_brace, opened_after}
 

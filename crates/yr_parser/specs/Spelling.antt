@@ -1,5 +1,5 @@
 -- The terminals that gathered tokens stand for.
-use Rattle.std.specs.Prelude.{◌≡◌, ℕ, ◌+◌, ◌-◌, ◌*◌, Bool, true, false, if◌then◌else◌, ◌==◌, nat_eq, List, [], ◌∷◌, length, take, drop, map, codes, Option, Some, None, slice_get}
+use Rattle.std.specs.Prelude.{ℕ, ◌+◌, ◌-◌, ◌*◌, Bool, true, false, if◌then◌else◌, ◌==◌, List, [], ◌∷◌, length, take, drop, map, codes, Option, Some, None, slice_get}
 use Rattle.std.specs.Str.{bytes_eq}
 use Rattle.yr_syntax.specs.declared.operator.Infix.TheVariants as op
 use Rattle.yr_syntax.specs.declared.operator.Reader.TheVariants as reader

@@ -1,5 +1,5 @@
 -- The terminals of the grammar: the tokens of rule files as the grammar sees them.
-use Rattle.std.specs.Prelude.{◌≡◌, ℕ, ℤ, Bool, List, [], ◌∷◌}
+use Rattle.std.specs.Prelude.{ℕ, ℤ, Bool, List}
 use Rattle.yr_syntax.specs.declared.operator.Infix.{Infix}
 use Rattle.yr_syntax.specs.declared.operator.Reader.{Reader}
 use Rattle.yr_syntax.specs.Condition.{RegexTree}

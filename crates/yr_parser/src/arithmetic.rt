@@ -24,9 +24,13 @@ impl<F: Fn(Global, &mut Cursor<'_>, usize, Entry) -> Result<Cond, Fault>> Gramma
         requires { Nests self.now.depth (F.pre self.now.inner) (F.post self.now.inner) }
         ensures { Gives tree.tree_of (reading.prod_from (reading.cond_at self.now.depth) (tree.tree_of first) tokens.old) result tokens.new }
     {
-        let rest = links(self.alloc, tokens, Level::Prod, self.depth, |t: &mut Cursor<'_>| {
-            self.unary(t)
-        })?;
+        let rest = links(
+            self.alloc,
+            tokens,
+            Level::Prod,
+            self.depth,
+            |t: &mut Cursor<'_>| { self.unary(t) },
+        )?;
         Ok(making::chain(self.alloc, first, rest)?)
     }
 
@@ -45,9 +49,13 @@ impl<F: Fn(Global, &mut Cursor<'_>, usize, Entry) -> Result<Cond, Fault>> Gramma
         ensures { Gives tree.tree_of (reading.sum_from (reading.cond_at self.now.depth) (tree.tree_of first) tokens.old) result tokens.new }
     {
         let first = self.prod_from(tokens, first)?;
-        let rest = links(self.alloc, tokens, Level::Sum, self.depth, |t: &mut Cursor<'_>| {
-            self.prod(t)
-        })?;
+        let rest = links(
+            self.alloc,
+            tokens,
+            Level::Sum,
+            self.depth,
+            |t: &mut Cursor<'_>| { self.prod(t) },
+        )?;
         Ok(making::chain(self.alloc, first, rest)?)
     }
 
@@ -66,9 +74,13 @@ impl<F: Fn(Global, &mut Cursor<'_>, usize, Entry) -> Result<Cond, Fault>> Gramma
         ensures { Gives tree.tree_of (reading.shift_from (reading.cond_at self.now.depth) (tree.tree_of first) tokens.old) result tokens.new }
     {
         let first = self.sum_from(tokens, first)?;
-        let rest = links(self.alloc, tokens, Level::Shift, self.depth, |t: &mut Cursor<'_>| {
-            self.sum(t)
-        })?;
+        let rest = links(
+            self.alloc,
+            tokens,
+            Level::Shift,
+            self.depth,
+            |t: &mut Cursor<'_>| { self.sum(t) },
+        )?;
         Ok(making::chain(self.alloc, first, rest)?)
     }
 
@@ -87,9 +99,13 @@ impl<F: Fn(Global, &mut Cursor<'_>, usize, Entry) -> Result<Cond, Fault>> Gramma
         ensures { Gives tree.tree_of (reading.band_from (reading.cond_at self.now.depth) (tree.tree_of first) tokens.old) result tokens.new }
     {
         let first = self.shift_from(tokens, first)?;
-        let rest = links(self.alloc, tokens, Level::Band, self.depth, |t: &mut Cursor<'_>| {
-            self.shift(t)
-        })?;
+        let rest = links(
+            self.alloc,
+            tokens,
+            Level::Band,
+            self.depth,
+            |t: &mut Cursor<'_>| { self.shift(t) },
+        )?;
         Ok(making::chain(self.alloc, first, rest)?)
     }
 
@@ -108,9 +124,13 @@ impl<F: Fn(Global, &mut Cursor<'_>, usize, Entry) -> Result<Cond, Fault>> Gramma
         ensures { Gives tree.tree_of (reading.bxor_from (reading.cond_at self.now.depth) (tree.tree_of first) tokens.old) result tokens.new }
     {
         let first = self.band_from(tokens, first)?;
-        let rest = links(self.alloc, tokens, Level::Bxor, self.depth, |t: &mut Cursor<'_>| {
-            self.band(t)
-        })?;
+        let rest = links(
+            self.alloc,
+            tokens,
+            Level::Bxor,
+            self.depth,
+            |t: &mut Cursor<'_>| { self.band(t) },
+        )?;
         Ok(making::chain(self.alloc, first, rest)?)
     }
 
@@ -129,9 +149,13 @@ impl<F: Fn(Global, &mut Cursor<'_>, usize, Entry) -> Result<Cond, Fault>> Gramma
         ensures { Gives tree.tree_of (reading.bits_from (reading.cond_at self.now.depth) (tree.tree_of first) tokens.old) result tokens.new }
     {
         let first = self.bxor_from(tokens, first)?;
-        let rest = links(self.alloc, tokens, Level::Bits, self.depth, |t: &mut Cursor<'_>| {
-            self.bxor(t)
-        })?;
+        let rest = links(
+            self.alloc,
+            tokens,
+            Level::Bits,
+            self.depth,
+            |t: &mut Cursor<'_>| { self.bxor(t) },
+        )?;
         Ok(making::chain(self.alloc, first, rest)?)
     }
 
@@ -150,7 +174,12 @@ impl<F: Fn(Global, &mut Cursor<'_>, usize, Entry) -> Result<Cond, Fault>> Gramma
         ensures { Gives tree.tree_of (reading.rel_from (reading.cond_at self.now.depth) (tree.tree_of first) tokens.old) result tokens.new }
     {
         let first = self.bits_from(tokens, first)?;
-        let link = next_link(tokens, Level::Rel, self.depth, |t: &mut Cursor<'_>| self.bits(t))?;
+        let link = next_link(
+            tokens,
+            Level::Rel,
+            self.depth,
+            |t: &mut Cursor<'_>| self.bits(t),
+        )?;
         Ok(making::pair(self.alloc, first, link)?)
     }
 
@@ -172,7 +201,12 @@ impl<F: Fn(Global, &mut Cursor<'_>, usize, Entry) -> Result<Cond, Fault>> Gramma
         if tokens.eat(Sign::Matches) {
             return matches_from(self.alloc, tokens, first);
         }
-        let link = next_link(tokens, Level::Equal, self.depth, |t: &mut Cursor<'_>| self.rel(t))?;
+        let link = next_link(
+            tokens,
+            Level::Equal,
+            self.depth,
+            |t: &mut Cursor<'_>| self.rel(t),
+        )?;
         Ok(making::pair(self.alloc, first, link)?)
     }
 
@@ -191,10 +225,20 @@ fn matches_from(alloc: Global, tokens: &mut Cursor<'_>, first: Cond) -> Result<C
     ensures { Gives tree.tree_of (reading.matches_from (tree.tree_of first) tokens.old) result tokens.new }
 {
     match tokens.peek() {
-        Some(Lexeme::Regex { text, nocase, dot_all }) => {
+        Some(
+            Lexeme::Regex {
+                text,
+                nocase,
+                dot_all,
+            },
+        ) => {
             let text = Vec::from_slice(alloc, text)?;
             tokens.skip();
-            let regex = RegexText { text, nocase, dot_all };
+            let regex = RegexText {
+                text,
+                nocase,
+                dot_all,
+            };
             Ok(making::matches(alloc, first, regex)?)
         }
         _ => Err(Fault::Syntax),

@@ -11,17 +11,14 @@ ghost use Rattle.yr_parser.specs.Terminals.{Terminals};
 /// Terminals have one reading or one refusal.
 pub fn one_answer()
     ensures { (places : Places) (k : Terminals) → OneAnswer places k }
-{
-}
+{}
 
 /// The text that a terminal holds is what the inside of its token stands for.
 pub fn unescaped_texts()
     ensures { (inside bytes : List ℕ) → Unescapes inside bytes → unescaped inside ≡ bytes }
-{
-}
+{}
 
 /// Small conditions have the trees that they are to have, and five small texts are no conditions.
 pub fn small_conditions()
     ensures { Examples }
-{
-}
+{}

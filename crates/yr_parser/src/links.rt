@@ -50,8 +50,6 @@ pub fn links<O: Fn(&mut Cursor<'_>) -> Result<Cond, Fault>>(
         |t: &mut Cursor<'_>| -> Result<Option<Link>, Fault>
             requires { Parses (reading.operand_at depth level) (O.pre operand) (O.post operand) }
             ensures { Gives (option_map tree.link_of) (reading.next_link level (reading.operand_at depth level) t.old) result t.new }
-        {
-            next_link(t, level, depth, |u: &mut Cursor<'_>| operand(u))
-        },
+        { next_link(t, level, depth, |u: &mut Cursor<'_>| operand(u)) },
     )
 }

@@ -6,7 +6,9 @@ ghost use Rattle.yr_syntax.specs.Condition as tree;
 
 use std::alloc::Global;
 use yr_base::NoMemory;
-use yr_syntax::{Cond, Infix, Link, Over, PathStep, Place, PrefixOp, Quant, Range, Reader, RegexText, SetRef};
+use yr_syntax::{
+    Cond, Infix, Link, Over, PathStep, Place, PrefixOp, Quant, Range, Reader, RegexText, SetRef,
+};
 
 #[tactic(auto, using(crate::proofs::TreeRules::made_prefix))]
 pub fn prefix(alloc: Global, op: PrefixOp, inner: Cond) -> Result<Cond, NoMemory>
@@ -178,7 +180,13 @@ pub fn for_of(alloc: Global, quant: Quant, set: SetRef, body: Cond) -> Result<Co
 }
 
 #[tactic(auto, using(crate::proofs::TreeRules::made_forin))]
-pub fn for_in(alloc: Global, quant: Quant, name: Vec<u8>, over: Over, body: Cond) -> Result<Cond, NoMemory>
+pub fn for_in(
+    alloc: Global,
+    quant: Quant,
+    name: Vec<u8>,
+    over: Over,
+    body: Cond,
+) -> Result<Cond, NoMemory>
     ensures { IfOk result (λ c. tree.tree_of c ≡ tree.ForIn (tree.asked_of quant) name.items (tree.domain_of over) (tree.tree_of body)) }
 {
     Ok(Cond::ForIn {

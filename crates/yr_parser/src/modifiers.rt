@@ -28,7 +28,10 @@ fn xor_one(tokens: &mut Cursor<'_>, key: i64) -> Result<Modifier, Fault>
     ensures { Gives tree.modifier_of (ruling.xor_one key tokens.old) result tokens.new }
 {
     tokens.expect(Sign::Close)?;
-    Ok(Modifier::Xor { low: key, high: key })
+    Ok(Modifier::Xor {
+        low: key,
+        high: key,
+    })
 }
 
 #[tactic(auto, unfolding(crate::specs::Ruling::xor_keys))]

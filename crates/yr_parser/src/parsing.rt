@@ -33,7 +33,11 @@ fn is_deep(is_clear: bool, tokens: &Cursor<'_>) -> bool
     requires { is_clear ≡ true → deep_from 0 0 tokens.now ≡ false }
     ensures { result ≡ deep_from 0 0 tokens.now }
 {
-    if is_clear { false } else { nests_too_deep(tokens) }
+    if is_clear {
+        false
+    } else {
+        nests_too_deep(tokens)
+    }
 }
 
 fn next(alloc: Global, all: &Tokens, tokens: &mut Cursor<'_>) -> Result<Decl, Fault>

@@ -13,7 +13,12 @@ use std::alloc::Global;
 use yr_syntax::Cond;
 
 /// A condition or a number, with brackets nested less deep than the number.
-pub fn condition_at(alloc: Global, tokens: &mut Cursor<'_>, depth: usize, entry: Entry) -> Result<Cond, Fault>
+pub fn condition_at(
+    alloc: Global,
+    tokens: &mut Cursor<'_>,
+    depth: usize,
+    entry: Entry,
+) -> Result<Cond, Fault>
     ensures { Gives tree.tree_of (reading.cond_at depth entry tokens.old) result tokens.new }
 {
     if depth == 0 {

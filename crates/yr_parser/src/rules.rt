@@ -75,7 +75,10 @@ fn hidden_flags(tokens: &mut Cursor<'_>) -> Result<Flags, Fault>
     ensures { Gives (λ f. (f.global, f.hidden)) (ruling.hidden_flags tokens.old) result tokens.new }
 {
     let global = tokens.eat(Sign::Global);
-    Ok(Flags { global, hidden: true })
+    Ok(Flags {
+        global,
+        hidden: true,
+    })
 }
 
 #[tactic(auto, unfolding(crate::specs::Ruling::private_flags))]
@@ -85,7 +88,10 @@ fn private_flags(tokens: &mut Cursor<'_>) -> Result<Flags, Fault>
     if tokens.eat(Sign::Private) {
         return hidden_flags(tokens);
     }
-    Ok(Flags { global: false, hidden: false })
+    Ok(Flags {
+        global: false,
+        hidden: false,
+    })
 }
 
 #[tactic(auto, unfolding(crate::specs::Ruling::global_flags))]
@@ -93,7 +99,10 @@ fn global_flags(tokens: &mut Cursor<'_>) -> Result<Flags, Fault>
     ensures { Gives (λ f. (f.global, f.hidden)) (ruling.global_flags tokens.old) result tokens.new }
 {
     let hidden = tokens.eat(Sign::Private);
-    Ok(Flags { global: true, hidden })
+    Ok(Flags {
+        global: true,
+        hidden,
+    })
 }
 
 #[tactic(auto, unfolding(crate::specs::Ruling::read_flags))]
@@ -118,7 +127,14 @@ fn condition(alloc: Global, all: &Tokens, tokens: &mut Cursor<'_>) -> Result<Con
 }
 
 #[tactic(auto, unfolding(crate::specs::Ruling::rule_from))]
-fn rule_from(alloc: Global, all: &Tokens, tokens: &mut Cursor<'_>, file: u32, line: u32, flags: Flags) -> Result<Rule, Fault>
+fn rule_from(
+    alloc: Global,
+    all: &Tokens,
+    tokens: &mut Cursor<'_>,
+    file: u32,
+    line: u32,
+    flags: Flags,
+) -> Result<Rule, Fault>
     ensures { Gives tree.rule_of (ruling.rule_from (places_of all.now) 65 file line (flags.global, flags.hidden) tokens.old) result tokens.new }
 {
     tokens.expect(Sign::Rule)?;
@@ -152,7 +168,13 @@ fn rule(alloc: Global, all: &Tokens, tokens: &mut Cursor<'_>) -> Result<Rule, Fa
 }
 
 #[tactic(auto, unfolding(crate::specs::Ruling::import_from))]
-fn import_from(alloc: Global, all: &Tokens, tokens: &mut Cursor<'_>, file: u32, line: u32) -> Result<Decl, Fault>
+fn import_from(
+    alloc: Global,
+    all: &Tokens,
+    tokens: &mut Cursor<'_>,
+    file: u32,
+    line: u32,
+) -> Result<Decl, Fault>
     ensures { Gives tree.declaration_of (ruling.import_from (places_of all.now) file line tokens.old) result tokens.new }
 {
     let module = tokens.take_text(alloc)?;

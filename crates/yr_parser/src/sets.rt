@@ -54,7 +54,11 @@ fn next_string_item(alloc: Global, tokens: &mut Cursor<'_>) -> Result<Option<Set
 fn more_string_items(alloc: Global, tokens: &mut Cursor<'_>) -> Result<Vec<SetItem>, Fault>
     ensures { Gives (λ v. map tree.item_of v.items) (many reading.next_string_item (length tokens.old) tokens.old) result tokens.new }
 {
-    many(alloc, tokens, |t: &mut Cursor<'_>| next_string_item(alloc, t))
+    many(
+        alloc,
+        tokens,
+        |t: &mut Cursor<'_>| next_string_item(alloc, t),
+    )
 }
 
 #[tactic(auto, unfolding(crate::specs::Reading::read_strings, crate::specs::Reading::read_string_items))]

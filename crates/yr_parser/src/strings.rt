@@ -28,10 +28,20 @@ fn body(alloc: Global, tokens: &mut Cursor<'_>) -> Result<StringBody, Fault>
             tokens.skip();
             Ok(StringBody::Text(text))
         }
-        Some(Lexeme::Regex { text, nocase, dot_all }) => {
+        Some(
+            Lexeme::Regex {
+                text,
+                nocase,
+                dot_all,
+            },
+        ) => {
             let text = Vec::from_slice(alloc, text)?;
             tokens.skip();
-            Ok(StringBody::Regex(RegexText { text, nocase, dot_all }))
+            Ok(StringBody::Regex(RegexText {
+                text,
+                nocase,
+                dot_all,
+            }))
         }
         Some(Lexeme::Hex(text)) => {
             let text = Vec::from_slice(alloc, text)?;
@@ -44,13 +54,24 @@ fn body(alloc: Global, tokens: &mut Cursor<'_>) -> Result<StringBody, Fault>
 
 /// A string, after its name.
 #[tactic(auto, unfolding(crate::specs::Ruling::string_from))]
-fn string_from(alloc: Global, all: &Tokens, tokens: &mut Cursor<'_>, line: u32, name: Vec<u8>) -> Result<StringDecl, Fault>
+fn string_from(
+    alloc: Global,
+    all: &Tokens,
+    tokens: &mut Cursor<'_>,
+    line: u32,
+    name: Vec<u8>,
+) -> Result<StringDecl, Fault>
     ensures { Gives tree.string_of (ruling.string_from (places_of all.now) line name.items tokens.old) result tokens.new }
 {
     tokens.expect(Sign::Assign)?;
     let body = body(alloc, tokens)?;
     let modifiers = modifiers(alloc, tokens)?;
-    Ok(StringDecl { name, body, modifiers, line })
+    Ok(StringDecl {
+        name,
+        body,
+        modifiers,
+        line,
+    })
 }
 
 #[tactic(auto, unfolding(crate::specs::Ruling::read_string, crate::specs::Reading::string_at))]
@@ -69,7 +90,11 @@ fn string(alloc: Global, all: &Tokens, tokens: &mut Cursor<'_>) -> Result<String
 }
 
 #[tactic(auto, unfolding(crate::specs::Ruling::next_string, crate::specs::Reading::string_at))]
-fn next_string(alloc: Global, all: &Tokens, tokens: &mut Cursor<'_>) -> Result<Option<StringDecl>, Fault>
+fn next_string(
+    alloc: Global,
+    all: &Tokens,
+    tokens: &mut Cursor<'_>,
+) -> Result<Option<StringDecl>, Fault>
     ensures { Gives (option_map tree.string_of) (ruling.next_string (places_of all.now) tokens.old) result tokens.new }
 {
     match tokens.peek() {
@@ -81,10 +106,18 @@ fn next_string(alloc: Global, all: &Tokens, tokens: &mut Cursor<'_>) -> Result<O
     }
 }
 
-fn more_strings(alloc: Global, all: &Tokens, tokens: &mut Cursor<'_>) -> Result<Vec<StringDecl>, Fault>
+fn more_strings(
+    alloc: Global,
+    all: &Tokens,
+    tokens: &mut Cursor<'_>,
+) -> Result<Vec<StringDecl>, Fault>
     ensures { Gives (λ v. map tree.string_of v.items) (many (ruling.next_string (places_of all.now)) (length tokens.old) tokens.old) result tokens.new }
 {
-    many(alloc, tokens, |t: &mut Cursor<'_>| next_string(alloc, all, t))
+    many(
+        alloc,
+        tokens,
+        |t: &mut Cursor<'_>| next_string(alloc, all, t),
+    )
 }
 
 #[tactic(auto, unfolding(crate::specs::Ruling::strings_from))]
@@ -98,7 +131,11 @@ fn listed(alloc: Global, all: &Tokens, tokens: &mut Cursor<'_>) -> Result<Vec<St
 }
 
 #[tactic(auto, unfolding(crate::specs::Ruling::string_part))]
-pub fn strings(alloc: Global, all: &Tokens, tokens: &mut Cursor<'_>) -> Result<Vec<StringDecl>, Fault>
+pub fn strings(
+    alloc: Global,
+    all: &Tokens,
+    tokens: &mut Cursor<'_>,
+) -> Result<Vec<StringDecl>, Fault>
     ensures { Gives (λ v. map tree.string_of v.items) (ruling.string_part (places_of all.now) tokens.old) result tokens.new }
 {
     if !tokens.eat(Sign::Strings) {

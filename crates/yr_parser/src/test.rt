@@ -258,9 +258,13 @@ impl<F: Fn(Global, &mut Cursor<'_>, usize, Entry) -> Result<Cond, Fault>> Gramma
         ensures { Gives tree.tree_of (reading.read_and (reading.cond_at self.now.depth) tokens.old) result tokens.new }
     {
         let first = self.not(tokens)?;
-        let rest = links(self.alloc, tokens, Level::And, self.depth, |t: &mut Cursor<'_>| {
-            self.not(t)
-        })?;
+        let rest = links(
+            self.alloc,
+            tokens,
+            Level::And,
+            self.depth,
+            |t: &mut Cursor<'_>| { self.not(t) },
+        )?;
         Ok(making::chain(self.alloc, first, rest)?)
     }
 
@@ -270,9 +274,13 @@ impl<F: Fn(Global, &mut Cursor<'_>, usize, Entry) -> Result<Cond, Fault>> Gramma
         ensures { Gives tree.tree_of (reading.read_or (reading.cond_at self.now.depth) tokens.old) result tokens.new }
     {
         let first = self.and(tokens)?;
-        let rest = links(self.alloc, tokens, Level::Or, self.depth, |t: &mut Cursor<'_>| {
-            self.and(t)
-        })?;
+        let rest = links(
+            self.alloc,
+            tokens,
+            Level::Or,
+            self.depth,
+            |t: &mut Cursor<'_>| { self.and(t) },
+        )?;
         Ok(making::chain(self.alloc, first, rest)?)
     }
 }

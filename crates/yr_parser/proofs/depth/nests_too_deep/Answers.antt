@@ -1,4 +1,4 @@
-use Rattle.std.proofs.Common.{◌≡◌, ◌∙◌, true, false, sym, ap, rules, arith}
+use Rattle.std.proofs.Common.{◌∙◌, sym, ap}
 use Rattle.yr_parser.specs.Lexemes.{terminal_of}
 use Rattle.yr_parser.specs.Depth.{deep_from}
 use Rattle.yr_parser.proofs.DepthLemmas.{turn-unfit, turn-brace, turn-on, turn-within, deep-end}

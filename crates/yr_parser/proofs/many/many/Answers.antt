@@ -1,4 +1,4 @@
-use Rattle.std.proofs.Common.{◌≡◌, ◌∙◌, Ok, refl, ap}
+use Rattle.std.proofs.Common.{◌∙◌, Ok, refl, ap}
 use Rattle.std.proofs.lemmas.Result.{err_from_is_err_and}
 use Rattle.yr_parser.specs.Many.{memory}
 use Rattle.yr_parser.proofs.ManyLemmas.{leads-begin, leads-more, leads-stop, leads-fails, leads-out}

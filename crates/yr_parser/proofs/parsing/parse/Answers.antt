@@ -1,4 +1,4 @@
-use Rattle.std.proofs.Common.{◌≡◌, ◌∙◌, ◌<◌, true, false, Err, sym, ap, arith}
+use Rattle.std.proofs.Common.{◌≡◌, ◌∙◌, false, Err, sym, ap, arith}
 use Rattle.yr_syntax.specs.Declaration.{declaration_of}
 use Rattle.yr_parser.specs.declared.fault.Fault.{Fault}
 use Rattle.yr_parser.specs.Spelling.{places_of, terminals_of}
