@@ -3,8 +3,10 @@ pub mod Words
 pub mod Places
 pub mod Gives
 pub mod Causes
+pub mod Digits
 pub mod Told
 pub mod Trace
 pub mod Store
+pub mod Notes
 pub mod Sink
 pub mod Memory

@@ -1,5 +1,5 @@
 -- What a store in memory holds.
-use Rattle.std.specs.Prelude.{◌≡◌, ◌⊎◌, ◌+◌, ◌-◌, ◌^◌, min, length, Contains, ℕ, List, [], ◌∷◌, None, Some, string_bytes, if◌then◌else◌}
+use Rattle.std.specs.Prelude.{◌≡◌, ◌⊎◌, ◌+◌, ◌-◌, ◌^◌, ◌||◌, ◌==◌, min, length, take, Contains, ℕ, Bool, true, false, List, [], ◌∷◌, ◌++◌, Option, None, Some, string_bytes, nat_lt, if◌then◌else◌}
 use Rattle.std.specs.Str.{bytes_eq}
 use Rattle.yr_base.specs.Store.{Files}
 use Rattle.yr_base.specs.Trace.{Entry}
@@ -40,3 +40,45 @@ IsToFail failing calls = Contains failing (min (calls + 1) (2 ^ 64 - 1))
 -- a read of this name is to fail
 abbrev pub FailsHere : MemoryView → List ℕ → Type 0
 FailsHere s name = IsToFail s.failing (length s.trace) ⊎ (file_in s.files name ≡ None)
+
+-- the later of two answers, if there is one
+abbrev pub later : Option ℕ → Option ℕ → Option ℕ
+later None earlier = earlier
+later (Some n) earlier = Some n
+
+-- How many bytes the put of this number takes, if it is to fail. Of two entries the later counts.
+abbrev pub taken_at : List (ℕ × ℕ) → ℕ → Option ℕ
+taken_at [] number = None
+taken_at (x ∷ xs) number = later (taken_at xs number) (if x.0 == number then Some x.1 else None)
+
+-- the put of a number, the first of which is 1
+abbrev pub put_number : SinkView → ℕ
+put_number s = min (s.puts + 1) (2 ^ 64 - 1)
+
+-- the bytes for which there is room
+abbrev pub room_left : SinkView → ℕ
+room_left s = s.room - length s.written
+
+abbrev pub is_some : {T : Type 0} → Option T → Bool
+is_some None = false
+is_some (Some x) = true
+
+abbrev pub at_most : Option ℕ → ℕ → ℕ
+at_most None n = n
+at_most (Some most) n = min n most
+
+-- the next put of this many bytes fails
+abbrev pub put_fails : SinkView → ℕ → Bool
+put_fails s count = is_some (taken_at s.failing (put_number s)) || nat_lt (room_left s) count
+
+-- how many of this many bytes the next put takes
+abbrev pub put_takes : SinkView → ℕ → ℕ
+put_takes s count = at_most (taken_at s.failing (put_number s)) (min count (room_left s))
+
+-- the sink after a put of these bytes
+abbrev pub after_put : SinkView → List ℕ → SinkView
+after_put s bytes = record s {
+  written = s.written ++ take (put_takes s (length bytes)) bytes;
+  puts = put_number s;
+  faults = if put_fails s (length bytes) then min (s.faults + 1) (2 ^ 64 - 1) else s.faults;
+}

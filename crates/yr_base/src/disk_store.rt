@@ -8,7 +8,10 @@ use std::fs::File;
 use std::io::{Read, Write};
 use std::rt::Files;
 
-/// The files of the machine.
+/// How many bytes one read asks for at most.
+const BLOCK: usize = 16_384;
+
+/// The files of the machine. It counts every error, and tells neither files nor calls.
 #[derive(Drop)]
 pub struct DiskStore<R: Files + Drop> {
     rt: R,
@@ -17,7 +20,9 @@ pub struct DiskStore<R: Files + Drop> {
 
 impl<R: Files + Drop> DiskStore<R> {
     /// The files that a runtime reaches.
-    pub fn new(rt: R) -> DiskStore<R> {
+    pub fn new(rt: R) -> DiskStore<R>
+        ensures { result.fault_count ≡ 0 }
+    {
         DiskStore { rt, fault_count: 0 }
     }
 }
@@ -41,9 +46,9 @@ impl<R: Files + Drop> Store for DiskStore<R> {
             return ReadAnswer::Failed;
         };
         let room = limit as usize + 1;
-        let mut buffer = [0u8; 4096];
+        let mut buffer = [0u8; BLOCK];
         while into.len() < room {
-            let most = (room - into.len()).min(4096);
+            let most = (room - into.len()).min(BLOCK);
             match file.read(&mut buffer[..most]) {
                 Ok(0) => return ReadAnswer::Done,
                 Ok(count) => {
@@ -78,5 +83,43 @@ impl<R: Files + Drop> Store for DiskStore<R> {
             }
         }
         WriteAnswer::Done
+    }
+}
+
+#[cfg(test)]
+mod tests {
+    use super::*;
+    use std::test::Fail;
+
+    #[test]
+    fn the_disk_is_read_up_to_a_limit(rt: HostRuntime) -> Result<(), Fail> {
+        let alloc = rt.alloc();
+        let mut store = DiskStore::new(rt.clone()?);
+        let name = "/tmp/yr_base-the_disk_is_read_up_to_a_limit";
+        let content = [7u8; 40_000];
+        assert_eq!(rt; store.write_file(alloc, name, &content), WriteAnswer::Done);
+        for (file, limit, answer, len) in [
+            (name, 40_001, ReadAnswer::Done, 40_000),
+            (name, 40_000, ReadAnswer::Done, 40_000),
+            (name, 39_999, ReadAnswer::Long, 40_000),
+            (name, 0, ReadAnswer::Long, 1),
+            ("/tmp/yr_base-missing", 9, ReadAnswer::Failed, 0),
+            ("/tmp", 9, ReadAnswer::Failed, 0),
+        ] {
+            let mut into = Vec::new(alloc);
+            assert_eq!(rt;
+                store.read_file(alloc, file, limit, &mut into),
+                answer,
+                "{file} at {limit}"
+            );
+            assert_eq!(rt;
+                into.as_slice() == &content[..len],
+                true,
+                "{file} at {limit}"
+            );
+        }
+        assert_eq!(rt; store.write_file(alloc, "/tmp", b"x"), WriteAnswer::Failed);
+        assert_eq!(rt; store.fault_count, 3);
+        Ok(())
     }
 }

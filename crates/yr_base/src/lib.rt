@@ -23,10 +23,13 @@ pub use disk_store::DiskStore;
 pub use memory::NoMemory;
 pub use memory_sink::MemorySink;
 pub use memory_store::MemoryStore;
-pub use numbers::{put_all, put_whole};
+pub use numbers::{put_all, put_hex, put_signed, put_whole};
 pub use place::{has_left_border, has_right_border, is_edge, is_wide_edge};
 pub use sink::{PutAnswer, Sink};
 pub use steps::Steps;
 pub use store::{ReadAnswer, Store, WriteAnswer};
 pub use stream_sink::StreamSink;
 pub use value::{Kind, ShortText, Truth, Value};
+
+#[cfg(test)]
+mod tests;

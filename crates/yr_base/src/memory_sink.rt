@@ -1,6 +1,8 @@
 //! Output in memory.
 
-ghost use Rattle.std.specs.Prelude.{◌≡◌, ℕ, ◌+◌, ◌≤◌, List, [], ◌∷◌, ◌++◌, IfOk, OnOk, OnErr, Some};
+ghost use Rattle.std.specs.Prelude.{◌≡◌, ℕ, ◌+◌, ◌≤◌, ◌↔◌, List, [], ◌∷◌, ◌++◌, length, IfOk, OnOk, OnErr, IsTrue, Some};
+ghost use Rattle.yr_base.specs.Memory.{taken_at, put_fails, after_put};
+ghost use Rattle.yr_base.specs.Sink.{Puts};
 
 use crate::memory::NoMemory;
 use crate::sink::{PutAnswer, Sink};
@@ -35,13 +37,16 @@ impl Model for MemorySink {
 }
 
 /// How many bytes a put of this number takes, if it is to fail. Of two, the later counts.
-fn taken_at(to_fail: &[(u64, u32)], number: u64) -> Option<u32> {
-    for entry in to_fail.iter().rev() {
+fn taken_at(to_fail: &[(u64, u32)], number: u64) -> Option<u32>
+    ensures { result ≡ taken_at to_fail.now number }
+{
+    let mut found = None;
+    for entry in to_fail {
         if entry.0 == number {
-            return Some(entry.1);
+            found = Some(entry.1);
         }
     }
-    None
+    found
 }
 
 impl MemorySink {
@@ -85,21 +90,28 @@ impl Sink for MemorySink {
 
     ghost faults = { λ s. s.faults };
 
-    fn put(&mut self, bytes: &[u8]) -> PutAnswer {
+    fn put(&mut self, bytes: &[u8]) -> PutAnswer
+        ensures later { self.old.faults ≤ self.new.faults }
+        ensures puts { Puts (Some self.old.written) (Some self.new.written) bytes.now result self.old.faults self.new.faults }
+
+        // It fails where it was asked to, or the bytes pass the room, and nowhere else.
+        ensures fails { result ≡ PutAnswer.Failed ↔ IsTrue (put_fails self.old (length bytes.now)) }
+        ensures after { self.new ≡ after_put self.old bytes.now }
+    {
         self.puts = self.puts.saturating_add(1);
         let left = self.room as usize - self.bytes.len();
         let fits = bytes.len().min(left);
-        let taken = match taken_at(&self.to_fail, self.puts) {
+        let asked = taken_at(&self.to_fail, self.puts);
+        let count = match asked {
             Some(taken) => fits.min(taken as usize),
             None => fits,
         };
-        let (front, rest) = bytes.split_at(taken);
-        let _ = self.bytes.extend_from_slice(front);
-        if rest.is_empty() {
-            PutAnswer::Done
-        } else {
+        let _ = self.bytes.extend_from_slice(&bytes[..count]);
+        if asked.is_some() || left < bytes.len() {
             self.fault_count = self.fault_count.saturating_add(1);
             PutAnswer::Failed
+        } else {
+            PutAnswer::Done
         }
     }
 }

@@ -3,7 +3,7 @@
 ghost use Rattle.std.specs.Prelude.{◌≡◌, ℕ, ◌+◌, ◌≤◌, ◌<◌, ◌^◌, ◌-◌, min, List, [], ◌∷◌, ◌++◌, ◌↔◌, map, length, IfOk, OnOk, OnErr, IsTrue, Some, None, IfSome, IfNone, Contains, ◌⊎◌};
 ghost use Rattle.std.specs.Option.{option_map};
 ghost use Rattle.yr_base.specs.Told.{told_more};
-ghost use Rattle.yr_base.specs.Store.{read_entries, Reads};
+ghost use Rattle.yr_base.specs.Store.{read_entries, Reads, write_entries, Writes};
 ghost use Rattle.yr_base.specs.Memory.{stored, entry_of, file_in, FailsHere, IsToFail};
 
 use crate::memory::NoMemory;
@@ -208,7 +208,15 @@ impl Store for MemoryStore {
         }
     }
 
-    fn write_file(&mut self, alloc: Global, name: &str, bytes: &[u8]) -> WriteAnswer {
+    fn write_file(&mut self, alloc: Global, name: &str, bytes: &[u8]) -> WriteAnswer
+        ensures trace { Some self.new.trace ≡ told_more (Some self.old.trace) (write_entries name.now result) }
+        ensures later { self.old.faults ≤ self.new.faults }
+        ensures writes { Writes (Some (file_in self.old.files)) (Some (file_in self.new.files)) name.now bytes.now result self.old.faults self.new.faults }
+
+        // It fails where it was asked to, and nowhere else.
+        ensures fails { result ≡ WriteAnswer.Failed → IsToFail self.old.failing (length self.old.trace) }
+        ensures only_there { IsToFail self.old.failing (length self.old.trace) → (result ≡ WriteAnswer.Failed) ⊎ (result ≡ WriteAnswer.NoMemory) }
+    {
         if is_to_fail(&self.to_fail, self.calls.len()) {
             if note(&mut self.calls, alloc, true, name, true).is_err() {
                 return WriteAnswer::NoMemory;
