@@ -5,3 +5,4 @@ pub mod Forms
 pub mod Faults
 pub mod Tokens
 pub mod Sources
+pub mod Includes

@@ -2,6 +2,7 @@
 #![tactic(auto)]
 
 mod fault;
+mod include;
 mod source;
 mod token;
 mod tokens;
