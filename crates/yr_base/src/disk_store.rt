@@ -90,12 +90,14 @@ impl<R: Files + Drop> Store for DiskStore<R> {
 mod tests {
     use super::*;
     use std::test::Fail;
+    use std::{fs, process};
 
     #[test]
     fn the_disk_is_read_up_to_a_limit(rt: HostRuntime) -> Result<(), Fail> {
         let alloc = rt.alloc();
         let mut store = DiskStore::new(rt.clone()?);
-        let name = "/tmp/yr_base-the_disk_is_read_up_to_a_limit";
+        let path = format!(in alloc; "/tmp/yr_base-{}", process::id(rt.process()))?;
+        let name = path.as_str();
         let content = [7u8; 40_000];
         assert_eq!(rt; store.write_file(alloc, name, &content), WriteAnswer::Done);
         for (file, limit, answer, len) in [
@@ -120,6 +122,7 @@ mod tests {
         }
         assert_eq!(rt; store.write_file(alloc, "/tmp", b"x"), WriteAnswer::Failed);
         assert_eq!(rt; store.fault_count, 3);
+        fs::remove_file(&rt, name)?;
         Ok(())
     }
 }

@@ -26,8 +26,9 @@ pub struct ShortText {
 }
 
 /// A value of a condition. A text is lent, or short and carried along.
-#[derive(Clone, Copy, Debug)]
+#[derive(Clone, Copy, Debug, Default)]
 pub enum Value<'a> {
+    #[default]
     Undefined,
     Number(i64),
     Flag(bool),

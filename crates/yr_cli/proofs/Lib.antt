@@ -1,0 +1,7 @@
+pub mod Runs
+pub mod TokenLemmas
+pub mod RuleLemmas
+pub mod MatchLemmas
+pub mod Walk
+pub mod Cases
+pub mod OneOutcome

@@ -1,0 +1,4 @@
+pub mod LaneLemmas
+pub mod PassLemmas
+pub mod SetLemmas
+pub mod PairLemmas

@@ -1,0 +1,10 @@
+pub mod Set
+pub mod Tree
+pub mod Sizes
+pub mod Spans
+pub mod Reverse
+pub mod Widen
+pub mod Fold
+pub mod Variants
+pub mod Counts
+pub mod Rows

@@ -1,0 +1,4 @@
+mod FoldedLemmas
+pub mod KindLemmas
+mod NumberLemmas
+mod TextLemmas

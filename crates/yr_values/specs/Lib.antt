@@ -1,0 +1,10 @@
+pub mod Values
+pub mod Operators
+pub mod Numbers
+pub mod Texts
+pub mod Comparisons
+pub mod Folded
+pub mod Readers
+pub mod Quantifiers
+pub mod Modules
+pub mod Names

@@ -1,0 +1,1 @@
+rule a { strings: $a = "ab" condition: $a }
