@@ -6,3 +6,5 @@ pub mod Faults
 pub mod Tokens
 pub mod Sources
 pub mod Includes
+pub mod Reading
+pub mod Candidates

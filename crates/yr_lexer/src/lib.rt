@@ -3,11 +3,21 @@
 
 mod fault;
 mod include;
+mod gap;
+mod hex;
+mod lexing;
+mod number;
+mod reserved;
+mod scan;
+mod sign;
 mod source;
+mod text;
 mod token;
 mod tokens;
 
 pub use fault::{GatherFault, LexFault};
+pub use text::unescape;
+pub use lexing::lex;
 pub use source::{FileToken, SourceFile};
 pub use token::{Token, TokenKind};
 pub use tokens::Tokens;

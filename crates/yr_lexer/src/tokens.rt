@@ -1,9 +1,10 @@
 //! The tokens of a file and of all that it includes.
 
-ghost use Rattle.std.specs.Prelude.{◌≡◌, ◌<◌, length, map, slice_get, Some, None};
+ghost use Rattle.std.specs.Prelude.{◌≡◌, ◌<◌, length, map, slice_get, All, Some};
 ghost use Rattle.yr_lexer.specs.declared.source.FileToken.{FileToken};
 ghost use Rattle.yr_lexer.specs.Forms.{IsSpelled};
 ghost use Rattle.yr_lexer.specs.Sources as sources;
+ghost use Rattle.yr_lexer.specs.Sources.{LiesInFile};
 
 use crate::source::{FileToken, SourceFile};
 use std::marker::Model;
@@ -46,6 +47,14 @@ impl Tokens {
         requires { k < length self.now.tokens }
         ensures text { result.now ≡ sources.text_of self.now k }
         ensures spelled { (t : FileToken) → slice_get self.now.tokens k ≡ Some t → IsSpelled result.now t.token.kind }
+    {
+        self.bytes(k)
+    }
+
+    fn bytes(&self, k: u32) -> &[u8]
+        requires { k < length self.now.tokens }
+        ensures text { result.now ≡ sources.text_of self.now k }
+        ensures lies { All (LiesInFile self.now.files) self.now.tokens }
     {
         let token = self.tokens[k as usize];
         let text = self.files[token.file as usize].text.as_slice();
