@@ -18,3 +18,6 @@ pub mod ListLemmas
 pub mod TokenLemmas
 pub mod Whole
 pub mod FormLemmas
+pub mod WalkLemmas
+pub mod FrameLemmas
+pub mod PassLemmas

@@ -152,7 +152,7 @@ module _ (lexed : Text → Result (List Token) LexFault) (unescaped : List ℕ �
       by_file (Some text) = if nat_lt (room_after w.files) (length text) then stops (TextTooLong name) (with_read name w) else text_walk deeper outer name text w
 
   -- a file and all that it includes, so many levels deep
-  pub walk_down : (levels : ℕ) → List (List ℕ) → List ℕ → Walked → Walk
+  unfoldable pub walk_down : (levels : ℕ) → List (List ℕ) → List ℕ → Walked → Walk
   walk_down zero outer name w = stops (Read name) w
   walk_down (suc levels) outer name w = name_walk (walk_down levels) outer name w
 

@@ -6,5 +6,7 @@ pub mod Faults
 pub mod Tokens
 pub mod Sources
 pub mod Includes
+pub mod Gathering
+pub mod OpenFiles
 pub mod Reading
 pub mod Candidates

@@ -2,9 +2,11 @@
 #![tactic(auto)]
 
 mod fault;
-mod include;
+mod frame;
 mod gap;
+mod gathering;
 mod hex;
+mod include;
 mod lexing;
 mod number;
 mod reserved;
@@ -16,6 +18,7 @@ mod token;
 mod tokens;
 
 pub use fault::{GatherFault, LexFault};
+pub use gathering::gather;
 pub use text::unescape;
 pub use lexing::lex;
 pub use source::{FileToken, SourceFile};
