@@ -1,5 +1,5 @@
 -- The bytes that a text stands for.
-use Rattle.std.proofs.Common.{◌≡◌, ◌≢◌, ℕ, zero, suc, ◌+◌, ◌*◌, ◌<◌, ◌≤◌, Bool, true, false, List, [], ◌∷◌, ◌++◌, length, Option, Some, None, if◌then◌else◌, refl, sym, ap, subst, ◌∙◌, arith}
+use Rattle.std.proofs.Common.{◌≡◌, ℕ, zero, suc, ◌+◌, ◌*◌, ◌<◌, ◌≤◌, Bool, true, false, List, [], ◌∷◌, length, Option, Some, None, refl, sym, ap, subst, ◌∙◌, ◌⊎◌, inl, inr, arith}
 use Rattle.std.specs.Prelude.{◌==◌, ◌&&◌, ◌||◌, nat_lt}
 use Rattle.std.proofs.lemmas.Bool.{ne_eqb, eqb-true, eqb-false, and_parts, or_parts, ltb-true, lt-ltb}
 use Rattle.yr_lexer.specs.Gaps.{Text}
@@ -103,3 +103,27 @@ rest-bad rest bytes r e n none u =
 -- all units are read
 pub unescapes-all : (rest : Text) (bytes : List ℕ) → unit_of rest ≡ None → Unescapes rest bytes → Unescapes rest []
 unescapes-all rest bytes none u = let z = (unescapes-end u none).1 in subst (λ (x : List ℕ). Unescapes rest x) z u
+
+abbrev pub IsDecided : Text → Type 0
+IsDecided t = ((bytes : List ℕ) × Unescapes t bytes) ⊎ ((bytes : List ℕ) → ¬ Unescapes t bytes)
+
+decide-none : (t : Text) → unit_of t ≡ None → IsDecided t
+decide-none [] e = inl ([], nothing)
+decide-none (b ∷ t) e = inr (λ bytes u. let h = (unescapes-end u e).0 in cc)
+
+decide-some : (t more : Text) (b : ℕ) → unit_of t ≡ Some (b, more) → IsDecided more → IsDecided t
+decide-some t more b e (inl g) = inl (b ∷ g.0, unit (unit-some t b more e) g.1)
+decide-some t more b e (inr n) = inr (λ bytes u. let x = unescapes-next u b more e in n x.0 x.2)
+
+decide-within : (n : ℕ) (t : Text) → length t ≤ n → IsDecided t
+decide-within zero [] h = inl ([], nothing)
+decide-within zero (b ∷ t) h = absurd (omega arith)
+decide-within (suc n) t h = go (unit_of t) refl (λ more l. decide-within n more l)
+  where
+    go : (o : Option (ℕ × Text)) → unit_of t ≡ o → ((more : Text) → length more ≤ n → IsDecided more) → IsDecided t
+    go None e f = decide-none t e
+    go (Some x) e f = let l = Stands-shorter (unit-some t x.0 x.1 e) in decide-some t x.1 x.0 e (f x.1 (omega arith))
+
+-- a text stands for some bytes or for none
+pub decided : (t : Text) → IsDecided t
+decided t = decide-within (length t) t (omega arith)

@@ -1,10 +1,10 @@
 -- The first byte of a token tells which kinds it may have.
-use Rattle.std.proofs.Common.{◌≡◌, ◌≢◌, ℕ, zero, suc, ◌+◌, ◌-◌, ◌<◌, ◌≤◌, Bool, true, false, List, [], ◌∷◌, ◌++◌, length, if◌then◌else◌, refl, sym, ap, subst, ◌∙◌, ◌⊎◌, inl, inr, arith}
-use Rattle.std.specs.Prelude.{◌==◌, ◌||◌, ◌&&◌, nat_lt, All, Contains, slice_index_or, ℤ}
-use Rattle.std.proofs.lemmas.Bool.{ltb-true, lt-ltb, eqb-true, eqb-false, ne_eqb, eq-eqb, and_parts}
+use Rattle.std.proofs.Common.{◌≡◌, ◌≢◌, ℕ, zero, suc, ◌<◌, Bool, true, false, List, [], ◌∷◌, ◌++◌, length, if◌then◌else◌, refl, sym, ap, subst, ◌∙◌, arith}
+use Rattle.std.specs.Prelude.{◌==◌, ◌||◌, ◌&&◌, nat_lt, Contains, slice_index_or, ℤ}
+use Rattle.std.proofs.lemmas.Bool.{lt-ltb, eqb-true, eq-eqb, and_parts}
 use Rattle.std.proofs.lemmas.List.Elements.{All-head}
-use Rattle.yr_base.specs.Bytes.{is_digit, is_word_start, is_word_byte}
-use Rattle.yr_base.specs.Words.{reserved_words, IsReserved, IsWord}
+use Rattle.yr_base.specs.Bytes.{is_digit, is_word_start}
+use Rattle.yr_base.specs.Words.{reserved_words, IsReserved}
 use Rattle.yr_lexer.specs.declared.token.TokenKind.{TokenKind}
 use Rattle.yr_lexer.specs.declared.token.TokenKind.TheVariants as kind
 use Rattle.yr_lexer.specs.declared.fault.FaultRow.{FaultRow}
@@ -12,9 +12,8 @@ use Rattle.yr_lexer.specs.declared.fault.FaultRow.TheVariants as row
 use Rattle.yr_lexer.specs.Gaps.{Text}
 use Rattle.yr_lexer.specs.Texts.{digit_of}
 use Rattle.yr_lexer.specs.Numbers.{AreDigits, IsNumber, decimal, kilobytes, megabytes, hexadecimal, octal}
-use Rattle.yr_lexer.specs.Forms.{HasForm, signs}
-use Rattle.yr_lexer.specs.Faults.{Fits, Longest, IsUnclosed, open_text, open_regex, open_hex, open_comment, IsBadEscape, IsFloat, IsBadByte, no_token, no_number, IsFault, rank}
-use Rattle.yr_lexer.proofs.Basics.{by_test}
+use Rattle.yr_lexer.specs.Forms.{signs}
+use Rattle.yr_lexer.specs.Faults.{Fits, IsUnclosed, open_text, open_regex, open_hex, open_comment, IsBadEscape, IsFloat, IsBadByte, no_token, no_number, IsFault, rank}
 
 -- every element passes a test
 abbrev pub every : {X : Type 0} → (X → Bool) → List X → Bool
@@ -340,4 +339,3 @@ only-sign P p0 kind.Text h = absurd cc
 only-sign P p0 (kind.Regex i s) h = absurd cc
 only-sign P p0 kind.Hex h = absurd cc
 only-sign P p0 kind.Sign h = p0
-

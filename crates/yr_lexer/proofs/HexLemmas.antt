@@ -1,20 +1,19 @@
 -- Hex literals: what is read is the one end outside comments.
-use Rattle.std.proofs.Common.{◌≡◌, ◌≢◌, ℕ, zero, suc, ◌+◌, ◌-◌, ◌<◌, ◌≤◌, Bool, true, false, List, [], ◌∷◌, ◌++◌, length, Option, Some, None, if◌then◌else◌, refl, sym, ap, subst, ◌∙◌, ◌⊎◌, inl, inr, ⊎_elim, arith, append_assoc, append-nil}
+use Rattle.std.proofs.Common.{◌≡◌, ◌≢◌, ℕ, ◌<◌, ◌≤◌, Bool, true, false, [], ◌∷◌, ◌++◌, length, Option, Some, None, refl, sym, ap, subst, ◌∙◌, ◌⊎◌, inl, inr, arith, append_assoc, append-nil}
 use Rattle.std.specs.Prelude.{◌==◌, ◌||◌, ◌&&◌}
-use Rattle.std.proofs.lemmas.Bool.{eqb-true, eqb-false, ne_eqb, eq-eqb, and_parts, and_from, or_left, or_right, or_cases}
-use Rattle.yr_lexer.specs.declared.token.TokenKind.{TokenKind}
+use Rattle.std.proofs.lemmas.Bool.{eqb-true, eqb-false, eq-eqb, and_parts, and_from, or_left, or_right}
 use Rattle.yr_lexer.specs.declared.token.TokenKind.TheVariants as kind
 use Rattle.yr_lexer.specs.declared.fault.FaultRow.{FaultRow}
 use Rattle.yr_lexer.specs.declared.fault.FaultRow.TheVariants as row
 use Rattle.yr_lexer.specs.Gaps.{Text, Line, at_end, at_feed, more, Block, closes as block_closes, inside, Comment, line, block}
 use Rattle.yr_lexer.specs.Forms.{HexEnds, closes, after_comment, after_byte}
-use Rattle.yr_lexer.specs.Faults.{Fits, Longest, IsUnclosed, open_hex, IsFault, IsFirstFault, rank}
+use Rattle.yr_lexer.specs.Faults.{Fits, open_hex, IsFault, IsFirstFault, rank}
 use Rattle.yr_lexer.specs.Candidates.{IsCandidate}
 use Rattle.yr_lexer.specs.Reading.{past_comment, opens_comment, past_hex_piece, hex_next, hex_step}
 use Rattle.yr_lexer.proofs.Basics.{by_test}
 use Rattle.yr_lexer.proofs.GapLemmas.{comment-some, comment-none, comment-read, comment-one, Comment-shorter}
 use Rattle.yr_lexer.proofs.SignLemmas.{Leaves, one, two, leaves}
-use Rattle.yr_lexer.proofs.FirstLemmas.{class_of, begins-at, only-hex, no-float, no-bad_byte, no-bad_escape, no-too_large, not-unclosed, same-head, same-tail}
+use Rattle.yr_lexer.proofs.FirstLemmas.{begins-at, only-hex, no-float, no-bad_byte, no-bad_escape, no-too_large, not-unclosed, same-head, same-tail}
 
 pub HexEnds-shorter : {t rest : Text} → HexEnds t rest → length rest < length t
 HexEnds-shorter closes = omega arith
@@ -60,6 +59,7 @@ comment-step t m r p h = go (47 ∷ t) refl h
     first : (u : Text) → ((t ≡ 47 ∷ u) ⊎ (t ≡ 42 ∷ u)) → ((v : Text) → 47 ∷ t ≢ 47 ∷ 47 ∷ v) → ((v : Text) → 47 ∷ t ≢ 47 ∷ 42 ∷ v) → ⊥
     first u (inl e) n n' = n u (ap (λ (x : Text). 47 ∷ x) e)
     first u (inr e) n n' = n' u (ap (λ (x : Text). 47 ∷ x) e)
+
     go : (x : Text) → x ≡ 47 ∷ t → HexEnds x r → HexEnds m r
     go x e closes = let g = same-head 125 47 r t e in absurd (omega arith)
     go x e (after_comment {more = m'} c h) =
@@ -75,6 +75,7 @@ open-step t r o p h = go (47 ∷ t) refl h
     first : (u : Text) → ((t ≡ 47 ∷ u) ⊎ (t ≡ 42 ∷ u)) → ((v : Text) → 47 ∷ t ≢ 47 ∷ 47 ∷ v) → ((v : Text) → 47 ∷ t ≢ 47 ∷ 42 ∷ v) → ⊥
     first u (inl e) n n' = n u (ap (λ (x : Text). 47 ∷ x) e)
     first u (inr e) n n' = n' u (ap (λ (x : Text). 47 ∷ x) e)
+
     go : (x : Text) → x ≡ 47 ∷ t → ¬ HexEnds x r
     go x e closes = let g = same-head 125 47 r t e in absurd (omega arith)
     go x e (after_comment {more = m'} c h) = comment-none t p m' (subst (λ (y : Text). Comment y m') e c)

@@ -1,5 +1,5 @@
 -- The bytes of a token have one kind.
-use Rattle.std.proofs.Common.{◌≡◌, ◌≢◌, ℕ, zero, suc, ◌+◌, ◌-◌, ◌<◌, ◌≤◌, Bool, true, false, List, [], ◌∷◌, ◌++◌, length, refl, sym, ap, subst, ◌∙◌, ◌⊎◌, inl, inr, ⊎_elim, arith, append_assoc, length-append}
+use Rattle.std.proofs.Common.{◌≡◌, ℕ, Bool, true, false, [], ◌∷◌, ◌++◌, length, refl, sym, ap, subst, ◌∙◌, ⊎_elim, arith}
 use Rattle.std.specs.Prelude.{◌==◌, ◌||◌, ℤ, pos}
 use Rattle.std.proofs.lemmas.Bool.{eqb-true, or_cases}
 use Rattle.std.proofs.lemmas.List.Elements.{All-head, All-tail}
@@ -11,11 +11,11 @@ use Rattle.yr_lexer.specs.Gaps.{Text}
 use Rattle.yr_lexer.specs.Numbers.{IsNumber}
 use Rattle.yr_lexer.specs.Forms.{AreWordBytes, AreFlags, no_flag, flag_i, flag_s, flags_is, flags_si}
 use Rattle.yr_lexer.specs.Faults.{Fits}
-use Rattle.yr_lexer.proofs.Basics.{same-rest, same-front}
+use Rattle.yr_lexer.proofs.Basics.{same-front}
 use Rattle.yr_lexer.proofs.NumberLemmas.{number-one}
 use Rattle.yr_lexer.proofs.UnitLemmas.{units-one}
 use Rattle.yr_lexer.proofs.SignLemmas.{bang-sign}
-use Rattle.yr_lexer.proofs.RegexBranch.{Closes, regex-units}
+use Rattle.yr_lexer.proofs.RegexBranch.{regex-units}
 use Rattle.yr_lexer.proofs.HexLemmas.{fits-hex, HexEnds-shorter, brace-sign}
 use Rattle.yr_lexer.proofs.FirstLemmas.{class_of, may_begin, begins, begins-at, only-word, only-number, only-text, only-string_name, only-count, only-place, only-length, only-regex, only-hex, only-sign, same-head, same-tail}
 
@@ -134,8 +134,10 @@ module _ (a : Bool) where
       where
         six : (class_of b == 6) ≡ true → Is kind.Sign k'
         six e g = only-length (λ k. Is kind.Sign k) (λ g. absurd (no-length_sign b t rest' rest (sym l) g f)) (λ g. refl) k' (begins-at a b t k' rest' 6 (eqb-true (class_of b) 6 e) g) g
+
         eight : (class_of b == 8) ≡ true → Is kind.Sign k'
         eight e g = only-hex (λ k. Is kind.Sign k) (λ g. absurd (no-hex_sign b t rest' rest (sym l) g f)) (λ g. refl) k' (begins-at a b t k' rest' 8 (eqb-true (class_of b) 8 e) g) g
+
         nine : (class_of b == 9) ≡ true → Is kind.Sign k'
         nine e g = only-sign (λ k. Is kind.Sign k) (λ g. refl) k' (begins-at a b t k' rest' 9 (eqb-true (class_of b) 9 e) g) g
 

@@ -21,3 +21,5 @@ pub mod FormLemmas
 pub mod WalkLemmas
 pub mod FrameLemmas
 pub mod PassLemmas
+pub mod OneLemmas
+pub mod CallerLemmas

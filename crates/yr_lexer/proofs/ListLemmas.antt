@@ -1,5 +1,5 @@
 -- A list has what a test finds in it.
-use Rattle.std.proofs.Common.{◌≡◌, ◌≢◌, ℕ, zero, suc, ◌+◌, ◌<◌, ◌≤◌, Bool, true, false, List, [], ◌∷◌, length, map, refl, sym, ap, subst, ◌∙◌, arith, Bor}
+use Rattle.std.proofs.Common.{◌≡◌, ℕ, zero, suc, ◌<◌, Bool, true, false, List, [], ◌∷◌, length, map, refl, sym, ap, ◌∙◌, arith, Bor}
 use Rattle.std.specs.Prelude.{◌||◌, ◌↔◌, IsTrue, Contains, slice_index_or}
 use Rattle.std.specs.List.{list_any}
 use Rattle.std.specs.Str.{bytes_eq}
@@ -21,7 +21,6 @@ is_in-contains [] w = λ e. absurd cc
 is_in-contains (x ∷ xs) w = bool_cases (bytes_eq x w || is_in xs w ≡ true → Contains (x ∷ xs) w) (bytes_eq x w)
     (λ f e. (zero, omega arith, (bytes_eq-Decides x w).0 f))
     (λ f e. contains-next x xs w (is_in-contains xs w (rw f at e)))
-
 
 is_in-at : (xs : List Text) (w : Text) (k : ℕ) → k < length xs → slice_index_or xs k w ≡ w → is_in xs w ≡ true
 unfolding is_in

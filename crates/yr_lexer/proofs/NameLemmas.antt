@@ -1,6 +1,6 @@
 -- Words and names: what is read is the longest token.
-use Rattle.std.proofs.Common.{◌≡◌, ◌≢◌, ℕ, zero, suc, ◌+◌, ◌-◌, ◌<◌, ◌≤◌, Bool, true, false, List, [], ◌∷◌, ◌++◌, length, if◌then◌else◌, refl, sym, ap, subst, ◌∙◌, arith, append_assoc}
-use Rattle.std.specs.Prelude.{◌==◌, ◌||◌, ◌&&◌, ◌↔◌, IsTrue, All}
+use Rattle.std.proofs.Common.{◌≡◌, ◌≢◌, ℕ, ◌≤◌, Bool, true, false, [], ◌∷◌, ◌++◌, length, refl, sym, ap, subst, ◌∙◌, arith, append_assoc}
+use Rattle.std.specs.Prelude.{◌==◌, ◌↔◌, IsTrue}
 use Rattle.std.proofs.lemmas.Bool.{or_left, eqb-true, eqb-false, and_parts}
 use Rattle.std.proofs.lemmas.List.Elements.{All-nil, All-cons, All-head, All-tail}
 use Rattle.yr_base.specs.Bytes.{is_word_start, is_word_byte}
@@ -9,12 +9,12 @@ use Rattle.yr_lexer.specs.declared.token.TokenKind.{TokenKind}
 use Rattle.yr_lexer.specs.declared.token.TokenKind.TheVariants as kind
 use Rattle.yr_lexer.specs.Gaps.{Text, before}
 use Rattle.yr_lexer.specs.Forms.{AreWordBytes}
-use Rattle.yr_lexer.specs.Faults.{Fits, Longest}
+use Rattle.yr_lexer.specs.Faults.{Fits}
 use Rattle.yr_lexer.specs.Candidates.{IsCandidate}
 use Rattle.yr_lexer.specs.Reading.{past_word, past_byte}
 use Rattle.yr_lexer.proofs.Basics.{by_test, before-is}
-use Rattle.yr_lexer.proofs.WordLemmas.{word-run, word-least, word-stops, past_word-at, past_word-shorter}
-use Rattle.yr_lexer.proofs.FirstLemmas.{every, every-contains, class_of, class-word, may_begin, begins-at, no-earlier, only-word, only-string_name, only-count, only-place, same-tail}
+use Rattle.yr_lexer.proofs.WordLemmas.{word-run, word-least, past_word-at, past_word-shorter}
+use Rattle.yr_lexer.proofs.FirstLemmas.{every, every-contains, class-word, begins-at, no-earlier, only-word, only-string_name, only-count, only-place, same-tail}
 
 abbrev IsWordByte : ℕ → Type 0
 IsWordByte b = is_word_byte b ≡ true

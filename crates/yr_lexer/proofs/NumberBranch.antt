@@ -1,10 +1,9 @@
 -- What begins with a digit: a number, or its fault.
-use Rattle.std.proofs.Common.{◌≡◌, ◌≢◌, ℕ, zero, suc, ◌+◌, ◌-◌, ◌*◌, ◌^◌, ◌<◌, ◌≤◌, Bool, true, false, List, [], ◌∷◌, ◌++◌, length, Option, Some, None, if◌then◌else◌, refl, sym, ap, subst, ◌∙◌, arith}
-use Rattle.std.specs.Prelude.{◌==◌, ◌||◌, ◌&&◌, nat_lt, min, All, ℤ, pos}
-use Rattle.std.proofs.lemmas.Bool.{or_left, or_right, eqb-true, and_parts, ltb-true, lt-ltb}
+use Rattle.std.proofs.Common.{◌≡◌, ◌≢◌, ℕ, ◌^◌, ◌<◌, ◌≤◌, Bool, true, false, [], ◌∷◌, ◌++◌, length, Option, Some, None, refl, sym, ap, subst, ◌∙◌, arith}
+use Rattle.std.specs.Prelude.{◌==◌, nat_lt, min, pos}
+use Rattle.std.proofs.lemmas.Bool.{eqb-true, and_parts, ltb-true, lt-ltb}
 use Rattle.std.proofs.lemmas.List.Elements.{All-nil, All-cons, All-append, All-weaker}
-use Rattle.yr_base.specs.Bytes.{is_digit, is_word_start, is_word_byte}
-use Rattle.yr_lexer.specs.declared.token.TokenKind.{TokenKind}
+use Rattle.yr_base.specs.Bytes.{is_word_byte}
 use Rattle.yr_lexer.specs.declared.token.TokenKind.TheVariants as kind
 use Rattle.yr_lexer.specs.declared.fault.FaultRow.{FaultRow}
 use Rattle.yr_lexer.specs.declared.fault.FaultRow.TheVariants as row
@@ -14,12 +13,12 @@ use Rattle.yr_lexer.specs.Numbers.{AreDigits, IsNumber, decimal, kilobytes, mega
 use Rattle.yr_lexer.specs.Forms.{AreWordBytes}
 use Rattle.yr_lexer.specs.Faults.{Fits, Longest, IsFloat, IsRun, IsBadByte, no_token, no_number, IsFault, IsFirstFault, rank}
 use Rattle.yr_lexer.specs.Candidates.{IsCandidate}
-use Rattle.yr_lexer.specs.Reading.{past_word, past_digits, number_in, is_fraction, begins_digit}
-use Rattle.yr_lexer.proofs.Basics.{by_test, bool_cases, before-is, same-rest, same-front}
+use Rattle.yr_lexer.specs.Reading.{past_word, past_digits, number_in, is_fraction}
+use Rattle.yr_lexer.proofs.Basics.{before-is, same-front}
 use Rattle.yr_lexer.proofs.WordLemmas.{word-run, word-least, word-stops, past_word-shorter}
 use Rattle.yr_lexer.proofs.NameLemmas.{least-at, word-exact}
-use Rattle.yr_lexer.proofs.NumberLemmas.{all_digits, capped, digits-capped, digits-split, digits-read, NoDigit, number-one, number-some, number-none}
-use Rattle.yr_lexer.proofs.FirstLemmas.{class_of, class-digit, begins-at, only-number, no-unclosed, no-bad_escape}
+use Rattle.yr_lexer.proofs.NumberLemmas.{all_digits, digits-capped, digits-split, digits-read, number-one, number-some, number-none}
+use Rattle.yr_lexer.proofs.FirstLemmas.{class-digit, begins-at, only-number, no-unclosed, no-bad_escape}
 
 abbrev IsWordByte : ℕ → Type 0
 IsWordByte b = is_word_byte b ≡ true

@@ -1,13 +1,13 @@
 -- Numbers, which the code caps at 2 ^ 63.
-use Rattle.std.proofs.Common.{◌≡◌, ◌≢◌, ℕ, zero, suc, ◌+◌, ◌-◌, ◌*◌, ◌<◌, ◌≤◌, ◌^◌, Bool, true, false, List, [], ◌∷◌, ◌++◌, length, Option, Some, None, if◌then◌else◌, refl, sym, ap, subst, ◌∙◌, ◌⊎◌, inl, inr, arith, length-append, append-nil}
-use Rattle.std.specs.Prelude.{min, nat_lt, ◌==◌, ◌&&◌, All}
+use Rattle.std.proofs.Common.{◌≡◌, ◌≢◌, ℕ, ◌+◌, ◌*◌, ◌<◌, ◌≤◌, ◌^◌, Bool, true, false, [], ◌∷◌, ◌++◌, length, Option, Some, None, if◌then◌else◌, refl, sym, ap, subst, ◌∙◌, ◌⊎◌, inl, inr, arith, length-append, append-nil}
+use Rattle.std.specs.Prelude.{min, nat_lt, ◌==◌, All}
 use Rattle.std.proofs.Math.Nat.{mul-le-mul_left, mul-le-mul_right}
-use Rattle.std.proofs.lemmas.Bool.{ltb-true, ltb-false, lt-ltb, eqb-true, eqb-false, ne_eqb, eq-eqb, cases_lt}
+use Rattle.std.proofs.lemmas.Bool.{ltb-true, lt-ltb, eqb-true, eqb-false, ne_eqb, cases_lt}
 use Rattle.std.proofs.lemmas.List.Elements.{All-nil, All-cons, All-head, All-tail}
 use Rattle.yr_lexer.specs.Gaps.{Text}
 use Rattle.yr_lexer.specs.Texts.{digit_of}
 use Rattle.yr_lexer.specs.Numbers.{number_after, number_of, AreDigits, IsNumber, decimal, kilobytes, megabytes, hexadecimal, octal}
-use Rattle.yr_lexer.specs.Reading.{past_digits, base_after, base_of, is_one, scale_of, scaled, if_nothing, value_of, value_from, value_in, number_in}
+use Rattle.yr_lexer.specs.Reading.{past_digits, base_after, base_of, is_one, scale_of, scaled, if_nothing, value_of, value_from, number_in}
 use Rattle.yr_lexer.proofs.Basics.{by_test}
 
 abbrev IsDigit : ℕ → ℕ → Type 0
@@ -224,9 +224,10 @@ based-sound base digits v other e =
     let s = digits-split base digits 0 in
     let q : if_nothing x.0 x.1 ≡ Some v = rw other at p.1 in
     let n = nothing-parts x.0 v x.1 q in
-    let same : digits ≡ s.0 = s.1 ∙ ap (λ (y : Text). s.0 ++ y) n.0 ∙ append-nil s.0 in
-    (subst (AreDigits base) (sym same) (record { some = not_empty s.0 digits x.1 s.1 p.0; digits = s.2 }),
-    n.1 ∙ s.3 ∙ ap (number_of base) (sym same))
+    let same : digits ≡ s.0 = s.1 ∙ ap (λ (y : Text). s.0 ++ y) n.0 ∙ append-nil s.0 in (
+      subst (AreDigits base) (sym same) (record { some = not_empty s.0 digits x.1 s.1 p.0; digits = s.2 }),
+      n.1 ∙ s.3 ∙ ap (number_of base) (sym same),
+    )
 
 -- the three ways in which a number is written
 data Based : Text → ℕ → Text → Type 0 where

@@ -1,22 +1,20 @@
 -- What begins with `/` and is no comment: an expression, or its fault.
-use Rattle.std.proofs.Common.{◌≡◌, ◌≢◌, ℕ, zero, suc, ◌+◌, ◌-◌, ◌<◌, ◌≤◌, Bool, true, false, List, [], ◌∷◌, ◌++◌, length, Option, Some, None, if◌then◌else◌, refl, sym, ap, subst, ◌∙◌, arith, append_assoc, length-append}
+use Rattle.std.proofs.Common.{◌≡◌, ◌≢◌, ℕ, ◌+◌, ◌<◌, ◌≤◌, Bool, true, false, [], ◌∷◌, ◌++◌, length, Some, None, if◌then◌else◌, refl, sym, ap, subst, ◌∙◌, arith, append_assoc, length-append}
 use Rattle.std.specs.Prelude.{◌==◌}
 use Rattle.std.proofs.lemmas.Bool.{eqb-true, eqb-false}
-use Rattle.yr_lexer.specs.declared.token.TokenKind.{TokenKind}
 use Rattle.yr_lexer.specs.declared.token.TokenKind.TheVariants as kind
 use Rattle.yr_lexer.specs.declared.fault.FaultRow.{FaultRow}
 use Rattle.yr_lexer.specs.declared.fault.FaultRow.TheVariants as row
-use Rattle.yr_lexer.specs.Gaps.{Text, Piece, comment, line, block, Block}
-use Rattle.yr_lexer.specs.Texts.{AreUnits}
+use Rattle.yr_lexer.specs.Gaps.{Text, Piece, comment, line, block}
 use Rattle.yr_lexer.specs.Forms.{AreFlags, no_flag, flag_i, flag_s, flags_is, flags_si}
-use Rattle.yr_lexer.specs.Faults.{Fits, Longest, IsUnclosed, open_regex, open_comment, IsFault, IsFirstFault, rank}
+use Rattle.yr_lexer.specs.Faults.{Fits, IsUnclosed, open_regex, open_comment, IsFault, IsFirstFault, rank}
 use Rattle.yr_lexer.specs.Candidates.{IsCandidate}
-use Rattle.yr_lexer.specs.Reading.{past_units, past_byte, Flags, flags_by, flags_of, past_line}
+use Rattle.yr_lexer.specs.Reading.{past_units, past_byte, Flags, flags_of, past_line}
 use Rattle.yr_lexer.proofs.Basics.{by_test}
 use Rattle.yr_lexer.proofs.GapLemmas.{line-read}
 use Rattle.yr_lexer.proofs.NameLemmas.{past_byte-true, past_byte-false}
 use Rattle.yr_lexer.proofs.UnitLemmas.{HasUnits, units-some, units-one, units-none}
-use Rattle.yr_lexer.proofs.FirstLemmas.{class_of, begins-at, only-regex, no-float, no-bad_byte, no-bad_escape, no-too_large, not-unclosed, same-head, same-tail}
+use Rattle.yr_lexer.proofs.FirstLemmas.{begins-at, only-regex, no-float, no-bad_byte, no-bad_escape, no-too_large, not-unclosed, same-head, same-tail}
 
 -- ---- flags
 
@@ -109,10 +107,11 @@ Closes t i s rest = (flags : Text) × AreFlags i s flags × HasUnits 47 t (flags
 pub regex-units : (a : Bool) (t : Text) (i s : Bool) (rest : Text) → Fits a (47 ∷ t) (kind.Regex i s) rest → Closes t i s rest
 regex-units a t i s rest f =
     let inside = f.form.0 in
-    let flags = f.form.1 in
-    (flags, f.form.5,
-    (inside, same-tail 47 47 t (inside ++ 47 ∷ (flags ++ rest)) (f.whole ∙ ap (λ (x : Text). x ++ rest) f.form.2 ∙ ap (λ (x : Text). 47 ∷ x) (append_assoc inside (47 ∷ flags) rest)), f.form.4))
-
+    let flags = f.form.1 in (
+      flags,
+      f.form.5,
+      (inside, same-tail 47 47 t (inside ++ 47 ∷ (flags ++ rest)) (f.whole ∙ ap (λ (x : Text). x ++ rest) f.form.2 ∙ ap (λ (x : Text). 47 ∷ x) (append_assoc inside (47 ∷ flags) rest)), f.form.4),
+    )
 
 module _ (a : Bool) (t : Text) (no_piece : (rest : Text) → ¬ Piece (47 ∷ t) rest) where
   pub regex-comment : (more : Text) → t ≡ 42 ∷ more → IsFirstFault row.Unclosed a (47 ∷ t)

@@ -1,9 +1,7 @@
 -- Signs, and the names of lengths beside `!=`.
-use Rattle.std.proofs.Common.{◌≡◌, ◌≢◌, ℕ, zero, suc, ◌+◌, ◌-◌, ◌<◌, ◌≤◌, Bool, true, false, List, [], ◌∷◌, ◌++◌, length, Option, Some, None, if◌then◌else◌, refl, sym, ap, subst, ◌∙◌, ◌⊎◌, inl, inr, ⊎_elim, arith, append_assoc}
-use Rattle.std.specs.Prelude.{◌==◌, ◌||◌, ◌&&◌, nat_le, nat_lt, Contains, not}
-use Rattle.std.specs.Str.{bytes_eq}
-use Rattle.std.proofs.lemmas.Slice.Eq.{bytes_eq-Decides}
-use Rattle.std.proofs.lemmas.Bool.{eqb-true, eqb-false, and_parts, or_parts, or_cases, or_left, or_right, ne_eqb, le-ltb}
+use Rattle.std.proofs.Common.{◌≡◌, ◌≢◌, ℕ, ◌<◌, ◌≤◌, Bool, true, false, List, [], ◌∷◌, ◌++◌, length, Option, Some, None, refl, sym, ap, subst, ◌∙◌, arith}
+use Rattle.std.specs.Prelude.{◌==◌, ◌||◌, ◌&&◌, nat_lt, Contains, not}
+use Rattle.std.proofs.lemmas.Bool.{eqb-true, eqb-false, and_parts, ne_eqb, le-ltb}
 use Rattle.std.proofs.lemmas.List.Elements.{All-head}
 use Rattle.yr_base.specs.Bytes.{is_word_byte, is_digit}
 use Rattle.yr_lexer.specs.declared.token.TokenKind.{TokenKind}
@@ -13,14 +11,14 @@ use Rattle.yr_lexer.specs.declared.fault.FaultRow.TheVariants as row
 use Rattle.yr_lexer.specs.Gaps.{Text}
 use Rattle.yr_lexer.specs.Texts.{digit_of}
 use Rattle.yr_lexer.specs.Forms.{signs, AreWordBytes}
-use Rattle.yr_lexer.specs.Faults.{Fits, Longest, IsFault, IsFirstFault, no_token, rank}
+use Rattle.yr_lexer.specs.Faults.{Fits, IsFault, IsFirstFault, no_token, rank}
 use Rattle.yr_lexer.specs.Candidates.{IsCandidate, IsOther}
 use Rattle.yr_lexer.specs.Reading.{past_word, past_byte, is_one_of, is_pair_of, sign_bytes, sign_pairs, past_sign, past_sign_byte}
 use Rattle.yr_lexer.proofs.Basics.{by_test, bool_cases}
 use Rattle.yr_lexer.proofs.ListLemmas.{is_in, is_in-contains}
 use Rattle.yr_lexer.proofs.WordLemmas.{word-run}
 use Rattle.yr_lexer.proofs.NameLemmas.{least-at, tail-of, past_byte-true, past_byte-false}
-use Rattle.yr_lexer.proofs.FirstLemmas.{every, every-contains, class_of, may_begin, begins-at, no-earlier, no-unclosed, no-bad_escape, no-float, only-length, only-sign, only-hex, same-tail}
+use Rattle.yr_lexer.proofs.FirstLemmas.{every, every-contains, class_of, begins-at, no-earlier, no-unclosed, no-bad_escape, no-float, only-length, only-sign, only-hex}
 
 -- ---- a list has what a test finds
 
@@ -236,8 +234,17 @@ length_name-plain a t true rest run f y e = absurd cc
 
 other-class : (b : ℕ) → IsOther b → b ≢ 123 → class_of b ≡ 9
 other-class b o n =
-    rw (o.no_word.no_word, digit-false b o.no_word.no_digit, ne_eqb b 34 o.no_word.no_quote, ne_eqb b 36 o.no_dollar, ne_eqb b 35 o.no_hash, ne_eqb b 64 o.no_at,
-    ne_eqb b 33 o.no_bang, ne_eqb b 47 o.no_word.no_slash, ne_eqb b 123 n) refl
+    rw (
+      o.no_word.no_word,
+      digit-false b o.no_word.no_digit,
+      ne_eqb b 34 o.no_word.no_quote,
+      ne_eqb b 36 o.no_dollar,
+      ne_eqb b 35 o.no_hash,
+      ne_eqb b 64 o.no_at,
+      ne_eqb b 33 o.no_bang,
+      ne_eqb b 47 o.no_word.no_slash,
+      ne_eqb b 123 n,
+    ) refl
   where
     digit-false : (b : ℕ) → is_digit b ≡ false → nat_lt (digit_of b) 10 ≡ false
     digit-false b h = le-ltb (digit_of b) 10 (grind arith)

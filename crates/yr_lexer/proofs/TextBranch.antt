@@ -1,17 +1,16 @@
 -- What begins with a quote: a text, or its fault.
-use Rattle.std.proofs.Common.{◌≡◌, ◌≢◌, ℕ, zero, suc, ◌+◌, ◌-◌, ◌<◌, ◌≤◌, Bool, true, false, List, [], ◌∷◌, ◌++◌, length, take, Option, Some, None, refl, sym, ap, subst, ◌∙◌, arith, append_assoc, length-append}
-use Rattle.yr_lexer.specs.declared.token.TokenKind.{TokenKind}
+use Rattle.std.proofs.Common.{◌≡◌, ℕ, ◌+◌, ◌-◌, ◌<◌, ◌≤◌, Bool, false, List, [], ◌∷◌, ◌++◌, length, take, Some, None, refl, sym, ap, subst, ◌∙◌, arith, append_assoc, length-append}
 use Rattle.yr_lexer.specs.declared.token.TokenKind.TheVariants as kind
 use Rattle.yr_lexer.specs.declared.fault.FaultRow.{FaultRow}
 use Rattle.yr_lexer.specs.declared.fault.FaultRow.TheVariants as row
 use Rattle.yr_lexer.specs.Gaps.{Text}
-use Rattle.yr_lexer.specs.Texts.{AreUnits, Unescapes}
-use Rattle.yr_lexer.specs.Faults.{Fits, Longest, IsUnclosed, open_text, IsBadEscape, IsFault, IsFirstFault, rank}
+use Rattle.yr_lexer.specs.Texts.{Unescapes}
+use Rattle.yr_lexer.specs.Faults.{Fits, IsUnclosed, open_text, IsBadEscape, IsFault, IsFirstFault, rank}
 use Rattle.yr_lexer.specs.Candidates.{IsCandidate}
 use Rattle.yr_lexer.specs.Reading.{past_units}
 use Rattle.yr_lexer.proofs.Basics.{take-front, same-front}
 use Rattle.yr_lexer.proofs.UnitLemmas.{HasUnits, units-some, units-one, units-none}
-use Rattle.yr_lexer.proofs.FirstLemmas.{class_of, begins-at, only-text, no-float, no-bad_byte, no-too_large, not-unclosed, same-tail}
+use Rattle.yr_lexer.proofs.FirstLemmas.{begins-at, only-text, no-float, no-bad_byte, no-too_large, not-unclosed, same-tail}
 
 -- the inside of what is read
 pub inside-read : (q : ℕ) (inside rest t : Text) → t ≡ inside ++ q ∷ rest → take (length t - length rest - 1) t ≡ inside

@@ -1,12 +1,11 @@
 -- A candidate is the token, unless its name is too long.
-use Rattle.std.proofs.Common.{◌≡◌, ◌≢◌, ℕ, ◌+◌, ◌-◌, ◌<◌, ◌≤◌, Bool, List, [], ◌∷◌, ◌++◌, length, refl, sym, ap, subst, ◌∙◌, arith, length-append}
-use Rattle.yr_base.specs.Words.{name_limit}
+use Rattle.std.proofs.Common.{◌≡◌, ◌≢◌, ℕ, ◌-◌, ◌<◌, ◌≤◌, Bool, [], ◌∷◌, length, refl, ap, subst, ◌∙◌, arith, length-append}
 use Rattle.yr_lexer.specs.declared.token.TokenKind.{TokenKind}
 use Rattle.yr_lexer.specs.declared.fault.FaultRow.{FaultRow}
 use Rattle.yr_lexer.specs.declared.fault.FaultRow.TheVariants as row
 use Rattle.yr_lexer.specs.Gaps.{Text}
 use Rattle.yr_lexer.specs.Forms.{name_length}
-use Rattle.yr_lexer.specs.Faults.{Fits, Longest, IsLongName, IsFault, IsFirstFault, rank}
+use Rattle.yr_lexer.specs.Faults.{Longest, IsLongName, IsFault, IsFirstFault}
 use Rattle.yr_lexer.specs.Tokens.{IsToken}
 use Rattle.yr_lexer.specs.Candidates.{IsCandidate}
 use Rattle.yr_lexer.proofs.KindLemmas.{fits-one}
@@ -26,7 +25,7 @@ not-long a b t k rest l h g =
     let same = longest-kind a b t k g.0 rest g.1 l g.2 in
     let len = longest-length a (b ∷ t) k g.0 rest g.1 l g.2 in
     let n : name_length k (length (b ∷ t) - length rest) ≡ name_length g.0 (length (b ∷ t) - length g.1) =
-        ap (λ (x : TokenKind). name_length x (length (b ∷ t) - length rest)) same ∙ ap (λ (x : ℕ). name_length g.0 (length (b ∷ t) - x)) len in
+    ap (λ (x : TokenKind). name_length x (length (b ∷ t) - length rest)) same ∙ ap (λ (x : ℕ). name_length g.0 (length (b ∷ t) - x)) len in
     let more = g.3 in
     omega arith
 

@@ -2,16 +2,16 @@
 use Rattle.std.proofs.Common.{◌≡◌, ◌≢◌, ℕ, ◌+◌, ◌-◌, ◌<◌, ◌≤◌, Bool, true, false, List, [], ◌∷◌, ◌++◌, length, take, Result, Ok, Err, refl, sym, ap, subst, ◌∙◌, append_assoc, append-nil, length-append, arith}
 use Rattle.std.proofs.lemmas.Bool.{eqb-true}
 use Rattle.std.proofs.lemmas.List.Sums.{count_by-le-length, sum_by-append}
-use Rattle.std.specs.Prelude.{count_by, cond, ◌==◌}
+use Rattle.std.specs.Prelude.{cond, ◌==◌}
 use Rattle.yr_lexer.specs.declared.token.TokenKind.{TokenKind}
 use Rattle.yr_lexer.specs.declared.token.Token.{Token}
 use Rattle.yr_lexer.specs.declared.fault.FaultRow.{FaultRow}
 use Rattle.yr_lexer.specs.declared.fault.LexFault.{LexFault}
 use Rattle.yr_lexer.specs.declared.fault.LexFault.TheVariants as fault
-use Rattle.yr_lexer.specs.Gaps.{Text, Piece, Gap, ends, piece, before, feeds_in, line_at}
+use Rattle.yr_lexer.specs.Gaps.{Text, Piece, Gap, ends, before, feeds_in, line_at}
 use Rattle.yr_lexer.specs.Faults.{Fits, IsFirstFault}
 use Rattle.yr_lexer.specs.Tokens.{IsToken, token_at, with_token, is_equals, LexesFrom, Lexes, ExplainsLex, nothing, refused, token, fault_on}
-use Rattle.yr_lexer.proofs.Basics.{before-is, before-append}
+use Rattle.yr_lexer.proofs.Basics.{before-is}
 use Rattle.yr_lexer.proofs.FormLemmas.{form-length}
 use Rattle.yr_lexer.proofs.GapLemmas.{HasFront, front-trans, Gap-front, gap-last, gap-trans}
 

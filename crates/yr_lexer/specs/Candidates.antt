@@ -1,10 +1,10 @@
 -- What the reading of one token finds before the length of its name is looked at. It serves the proofs.
-use Rattle.std.specs.Prelude.{◌≡◌, ◌≢◌, ℕ, ◌<◌, Bool, false, Result, Ok, Err}
+use Rattle.std.specs.Prelude.{◌≡◌, ◌≢◌, ℕ, ◌<◌, Bool, false}
 use Rattle.yr_lexer.specs.declared.token.TokenKind.{TokenKind}
 use Rattle.yr_lexer.specs.declared.fault.FaultRow.{FaultRow}
 use Rattle.yr_base.specs.Bytes.{is_word_start, is_digit}
 use Rattle.yr_lexer.specs.Gaps.{Text}
-use Rattle.yr_lexer.specs.Faults.{Longest, IsFault, IsFirstFault, rank}
+use Rattle.yr_lexer.specs.Faults.{Longest, IsFault, rank}
 
 -- the longest token, where no row of the table of faults holds but perhaps the last
 pub record IsCandidate (after_equals : Bool) (t : Text) (k : TokenKind) (rest : Text) : Type 0 where

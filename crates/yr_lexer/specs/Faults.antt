@@ -1,5 +1,5 @@
 -- The table of faults, tested where a token begins.
-use Rattle.std.specs.Prelude.{◌≡◌, ◌≢◌, ℕ, ◌+◌, ◌-◌, ◌≤◌, ◌<◌, ◌^◌, Bool, true, false, List, [], ◌∷◌, ◌++◌, length, pos}
+use Rattle.std.specs.Prelude.{◌≡◌, ℕ, ◌-◌, ◌≤◌, ◌<◌, ◌^◌, Bool, true, false, List, ◌∷◌, ◌++◌, length, pos}
 use Rattle.yr_base.specs.Bytes.{is_word_byte}
 use Rattle.yr_base.specs.Words.{name_limit}
 use Rattle.yr_lexer.specs.declared.token.TokenKind.{TokenKind}

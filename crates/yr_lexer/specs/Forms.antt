@@ -1,5 +1,5 @@
 -- The table of tokens: the form of each kind ('Writing YARA rules', its lexical parts).
-use Rattle.std.specs.Prelude.{◌≡◌, ◌≢◌, ℕ, ◌+◌, ◌-◌, ◌≤◌, Bool, true, false, List, [], ◌∷◌, ◌++◌, length, pos, All, Contains, codes}
+use Rattle.std.specs.Prelude.{◌≡◌, ◌≢◌, ℕ, ◌-◌, ◌≤◌, Bool, true, false, List, [], ◌∷◌, ◌++◌, length, pos, All, Contains, codes}
 use Rattle.yr_base.specs.Bytes.{is_word_byte}
 use Rattle.yr_base.specs.Words.{IsReserved, IsWord, name_limit}
 use Rattle.yr_lexer.specs.declared.token.TokenKind.{TokenKind}
@@ -22,7 +22,6 @@ pub data HexEnds : Text → Text → Type 0 where
   after_comment : {t more rest : Text} → Comment t more → HexEnds more rest → HexEnds t rest
   after_byte : {b : ℕ} {t rest : Text} → b ≢ 125 → ((u : Text) → b ∷ t ≢ 47 ∷ 47 ∷ u) → ((u : Text) → b ∷ t ≢ 47 ∷ 42 ∷ u)
       → HexEnds t rest → HexEnds (b ∷ t) rest
-
 
 -- how the flags of an expression are written: i for letters in either case, s for `.` that takes a line feed too, in either order
 pub data AreFlags : Bool → Bool → Text → Type 0 where

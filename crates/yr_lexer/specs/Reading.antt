@@ -1,6 +1,6 @@
 -- How the front of a text is read. These functions serve the proofs: the definitions above them say what a text has.
-use Rattle.std.specs.Prelude.{◌≡◌, ℕ, ◌+◌, ◌-◌, ◌*◌, ◌^◌, min, Bool, true, false, not, ◌||◌, ◌&&◌, ◌==◌, nat_lt, List, [], ◌∷◌, length, take, Option, Some, None, codes, if◌then◌else◌}
-use Rattle.yr_base.specs.Bytes.{is_word_byte, is_blank, is_digit}
+use Rattle.std.specs.Prelude.{ℕ, ◌+◌, ◌*◌, ◌^◌, min, Bool, true, false, ◌||◌, ◌&&◌, ◌==◌, nat_lt, List, [], ◌∷◌, length, Option, Some, None, codes, if◌then◌else◌}
+use Rattle.yr_base.specs.Bytes.{is_word_byte, is_blank}
 use Rattle.yr_lexer.specs.Gaps.{Text}
 use Rattle.yr_lexer.specs.Texts.{digit_of}
 

@@ -1,5 +1,5 @@
 -- Files that were read, and the tokens in them.
-use Rattle.std.specs.Prelude.{◌≡◌, ℕ, ◌≤◌, ◌<◌, List, [], ◌∷◌, length, map, string_bytes, slice_range, slice_get, All, Option, Some, None}
+use Rattle.std.specs.Prelude.{ℕ, ◌≤◌, ◌<◌, List, [], length, string_bytes, slice_range, slice_get, Option, Some, None}
 use Rattle.yr_lexer.specs.declared.token.Token.{Token}
 use Rattle.yr_lexer.specs.declared.source.SourceFile.{SourceFile}
 use Rattle.yr_lexer.specs.declared.source.FileToken.{FileToken}

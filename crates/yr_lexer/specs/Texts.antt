@@ -1,5 +1,5 @@
 -- Texts and expressions between their quotes, and what the inside of a text stands for ('Writing YARA rules', 'Text strings').
-use Rattle.std.specs.Prelude.{◌≡◌, ◌≢◌, ℕ, ◌+◌, ◌-◌, ◌*◌, ◌<◌, ◌&&◌, nat_le, if◌then◌else◌, List, [], ◌∷◌}
+use Rattle.std.specs.Prelude.{◌≢◌, ℕ, ◌+◌, ◌-◌, ◌*◌, ◌<◌, ◌&&◌, nat_le, if◌then◌else◌, List, [], ◌∷◌}
 use Rattle.yr_base.specs.Bytes.{is_digit}
 use Rattle.yr_lexer.specs.Gaps.{Text}
 

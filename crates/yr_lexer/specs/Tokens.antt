@@ -1,5 +1,5 @@
 -- The tokens of a text, or its first fault.
-use Rattle.std.specs.Prelude.{◌≡◌, ◌≢◌, ℕ, ◌-◌, Bool, false, List, [], ◌∷◌, length, Result, Ok, Err}
+use Rattle.std.specs.Prelude.{◌≢◌, ℕ, ◌-◌, Bool, false, List, [], ◌∷◌, length, Result, Ok, Err}
 use Rattle.std.specs.Str.{bytes_eq}
 use Rattle.yr_lexer.specs.declared.token.TokenKind.{TokenKind}
 use Rattle.yr_lexer.specs.declared.token.Token.{Token}

@@ -89,22 +89,40 @@ impl<T: Drop> From<AllocFailed<T>> for GatherFault {
 pub enum GatherFault {
     /// A file has no tokens.
     #[error("{file}: {fault}")]
-    Lex { file: String, fault: LexFault },
+    Lex {
+        file: String,
+        fault: LexFault,
+    },
     /// A file could not be read.
     #[error("cannot read {name}")]
-    Read { name: String },
+    Read {
+        name: String,
+    },
     /// The name in an include is empty or is no text.
     #[error("{file}:{line}: no file name")]
-    Path { file: String, line: u32 },
+    Path {
+        file: String,
+        line: u32,
+    },
     /// An include names a file that is still being gathered.
     #[error("{file}:{line}: {name} includes itself")]
-    Cycle { file: String, line: u32, name: String },
+    Cycle {
+        file: String,
+        line: u32,
+        name: String,
+    },
     /// An include stands too deep.
     #[error("{file}:{line}: {name} stands too deep")]
-    Depth { file: String, line: u32, name: String },
+    Depth {
+        file: String,
+        line: u32,
+        name: String,
+    },
     /// A file is longer than what is left of the limit.
     #[error("{name}: too long")]
-    TextTooLong { name: String },
+    TextTooLong {
+        name: String,
+    },
     /// There was no memory.
     #[error("out of memory")]
     NoMemory,

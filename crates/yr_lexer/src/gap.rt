@@ -27,7 +27,8 @@ fn past_line(text: &[u8]) -> &[u8]
 
 #[tactic(auto, unfolding(crate::specs::Reading::past_block))]
 fn past_block(text: &[u8]) -> Option<&[u8]>
-    ensures { MatchOption result (reading.past_block false text.now ≡ None) (λ x. reading.past_block false text.now ≡ Some x.now) }
+    ensures { MatchOption result (reading.past_block false text.now ≡ None)
+        (λ x. reading.past_block false text.now ≡ Some x.now) }
 {
     let mut rest = text;
     let mut star = false;
@@ -43,7 +44,8 @@ fn past_block(text: &[u8]) -> Option<&[u8]>
 
 /// What follows the comment that the bytes behind a `/` go on with.
 pub fn past_comment(behind: &[u8]) -> Option<&[u8]>
-    ensures { MatchOption result (reading.past_comment behind.now ≡ None) (λ x. reading.past_comment behind.now ≡ Some x.now) }
+    ensures { MatchOption result (reading.past_comment behind.now ≡ None)
+        (λ x. reading.past_comment behind.now ≡ Some x.now) }
 {
     match behind {
         [b'/', more @ ..] => Some(past_line(more)),
@@ -54,7 +56,8 @@ pub fn past_comment(behind: &[u8]) -> Option<&[u8]>
 
 #[tactic(auto, unfolding(crate::specs::Reading::past_piece))]
 fn past_piece(text: &[u8]) -> Option<&[u8]>
-    ensures { MatchOption result (reading.past_piece text.now ≡ None) (λ x. reading.past_piece text.now ≡ Some x.now) }
+    ensures { MatchOption result (reading.past_piece text.now ≡ None)
+        (λ x. reading.past_piece text.now ≡ Some x.now) }
 {
     match text {
         [] => None,

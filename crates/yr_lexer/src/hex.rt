@@ -17,7 +17,8 @@ fn opens_comment(behind: &[u8]) -> bool
 }
 
 fn past_hex_piece(b: u8, behind: &[u8]) -> Option<&[u8]>
-    ensures { MatchOption result (reading.past_hex_piece b behind.now ≡ None) (λ x. reading.past_hex_piece b behind.now ≡ Some x.now) }
+    ensures { MatchOption result (reading.past_hex_piece b behind.now ≡ None)
+        (λ x. reading.past_hex_piece b behind.now ≡ Some x.now) }
 {
     if b == b'/' && opens_comment(behind) {
         past_comment(behind)
@@ -29,7 +30,8 @@ fn past_hex_piece(b: u8, behind: &[u8]) -> Option<&[u8]>
 /// What follows a byte or a comment, and whether the byte was the closing one.
 #[tactic(auto, unfolding(crate::specs::Reading::hex_step))]
 fn hex_step(text: &[u8]) -> Option<(bool, &[u8])>
-    ensures { MatchOption result (reading.hex_step text.now ≡ None) (λ x. reading.hex_step text.now ≡ Some (x.0, x.1.now)) }
+    ensures { MatchOption result (reading.hex_step text.now ≡ None)
+        (λ x. reading.hex_step text.now ≡ Some (x.0, x.1.now)) }
 {
     match text {
         [] => None,
@@ -43,7 +45,8 @@ fn hex_step(text: &[u8]) -> Option<(bool, &[u8])>
 
 /// What follows the next `}` that stands outside comments.
 pub fn past_hex(text: &[u8]) -> Option<&[u8]>
-    ensures { MatchOption result ((rest : Text) → ¬ HexEnds text.now rest) (λ x. HexEnds text.now x.now) }
+    ensures { MatchOption result ((rest : Text) → ¬ HexEnds text.now rest)
+        (λ x. HexEnds text.now x.now) }
 {
     let mut rest = text;
     while let Some((is_end, next)) = hex_step(rest) {

@@ -1,9 +1,10 @@
 //! The tokens of a text.
 
-ghost use Rattle.std.specs.Prelude.{◌≡◌, ◌+◌, ◌-◌, ◌<◌, ◌≤◌, ◌^◌, length, List, Result, MatchResult};
+ghost use Rattle.std.specs.Prelude.{◌≡◌, ◌+◌, ◌-◌, ◌<◌, ◌≤◌, ◌^◌, length, List, Result, MatchResult, IfOk, All};
 ghost use Rattle.yr_lexer.specs.declared.fault.LexFault.{LexFault};
 ghost use Rattle.yr_lexer.specs.declared.token.Token.{Token};
 ghost use Rattle.yr_lexer.specs.Gaps.{Text, feeds_in};
+ghost use Rattle.yr_lexer.specs.Sources.{LiesIn};
 ghost use Rattle.yr_lexer.specs.Tokens.{Lexes, ExplainsLex, is_equals, fault_on};
 
 use crate::fault::{FaultRow, LexFault};
@@ -61,7 +62,10 @@ fn fault_on(row: FaultRow, line: u32) -> LexFault
 /// The tokens of a text, in order. A token lends its bytes from the text: it has only its places.
 pub fn lex(alloc: Global, text: &[u8]) -> Result<Vec<Token>, LexFault>
     requires { length text.now ≤ 2 ^ 24 }
-    ensures { MatchResult result (λ tokens. Lexes text.now (Ok tokens.items)) (ExplainsLex text.now) }
+    ensures answer { MatchResult result
+        (λ tokens. Lexes text.now (Ok tokens.items)) (ExplainsLex text.now) }
+    ensures few { IfOk result (λ tokens. length tokens.items ≤ length text.now) }
+    ensures lies { IfOk result (λ tokens. All (LiesIn text.now) tokens.items) }
 {
     let mut tokens = Vec::new(alloc);
     let mut rest = past_gap(text);

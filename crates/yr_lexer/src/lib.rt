@@ -7,20 +7,24 @@ mod gap;
 mod gathering;
 mod hex;
 mod include;
+mod laws;
 mod lexing;
 mod number;
 mod reserved;
 mod scan;
 mod sign;
 mod source;
+#[cfg(test)]
+mod tests;
 mod text;
 mod token;
 mod tokens;
 
 pub use fault::{GatherFault, LexFault};
 pub use gathering::gather;
-pub use text::unescape;
+pub use laws::{one_answer, one_meaning};
 pub use lexing::lex;
 pub use source::{FileToken, SourceFile};
+pub use text::unescape;
 pub use token::{Token, TokenKind};
 pub use tokens::Tokens;

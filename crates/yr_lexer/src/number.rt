@@ -80,7 +80,8 @@ fn is_b(text: &[u8]) -> bool
 }
 
 fn scale_of(text: &[u8]) -> Option<u64>
-    ensures scale { MatchOption result (reading.scale_of text.now ≡ None) (λ x. (reading.scale_of text.now ≡ Some x) × (x ≤ 1048576)) }
+    ensures scale { MatchOption result (reading.scale_of text.now ≡ None)
+        (λ x. (reading.scale_of text.now ≡ Some x) × (x ≤ 1048576)) }
 {
     match text {
         [] => Some(1),
@@ -118,7 +119,8 @@ fn is_fraction(text: &[u8]) -> bool
 /// A number in units, `TOO_LARGE` where it would pass it.
 fn scaled(number: u64, behind: &[u8]) -> Option<u64>
     requires { number ≤ 2 ^ 63 }
-    ensures { MatchOption result (reading.scaled number (reading.scale_of behind.now) ≡ None) (λ x. reading.scaled number (reading.scale_of behind.now) ≡ Some x) }
+    ensures { MatchOption result (reading.scaled number (reading.scale_of behind.now) ≡ None)
+        (λ x. reading.scaled number (reading.scale_of behind.now) ≡ Some x) }
 {
     match scale_of(behind) {
         Some(scale) => {
@@ -132,7 +134,8 @@ fn scaled(number: u64, behind: &[u8]) -> Option<u64>
 /// The value of a number whose digits are read, if nothing stands behind them but a unit of decimal numbers.
 fn value_of(base: u8, number: u64, behind: &[u8]) -> Option<u64>
     requires { number ≤ 2 ^ 63 }
-    ensures { MatchOption result (reading.value_of base number behind.now ≡ None) (λ x. reading.value_of base number behind.now ≡ Some x) }
+    ensures { MatchOption result (reading.value_of base number behind.now ≡ None)
+        (λ x. reading.value_of base number behind.now ≡ Some x) }
 {
     if base == 10 {
         return scaled(number, behind);
@@ -145,7 +148,8 @@ fn value_of(base: u8, number: u64, behind: &[u8]) -> Option<u64>
 
 fn value_in(base: u8, digits: &[u8]) -> Option<u64>
     requires { base ≤ 16 }
-    ensures { MatchOption result (reading.value_in base digits.now ≡ None) (λ x. reading.value_in base digits.now ≡ Some x) }
+    ensures { MatchOption result (reading.value_in base digits.now ≡ None)
+        (λ x. reading.value_in base digits.now ≡ Some x) }
 {
     let (number, behind) = past_digits(base, digits);
     if behind.len() == digits.len() {
@@ -157,7 +161,8 @@ fn value_in(base: u8, digits: &[u8]) -> Option<u64>
 
 /// The value of a number, `TOO_LARGE` where it would pass it.
 pub fn number_in(run: &[u8]) -> Option<u64>
-    ensures { MatchOption result (reading.number_in run.now ≡ None) (λ x. reading.number_in run.now ≡ Some x) }
+    ensures { MatchOption result (reading.number_in run.now ≡ None)
+        (λ x. reading.number_in run.now ≡ Some x) }
 {
     let (base, digits) = base_of(run);
     value_in(base, digits)

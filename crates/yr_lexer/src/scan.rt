@@ -12,7 +12,7 @@ ghost use Rattle.yr_lexer.specs.Reading as reading;
 
 use crate::fault::FaultRow;
 use crate::hex::past_hex;
-use crate::number::{is_float, number_in, TOO_LARGE};
+use crate::number::{TOO_LARGE, is_float, number_in};
 use crate::reserved::is_reserved;
 use crate::sign::{flags_of, past_byte, past_sign};
 use crate::text::{has_good_escapes, past_units};
@@ -75,7 +75,9 @@ fn length_name(behind: &[u8]) -> (TokenKind, &[u8])
 /// The value that fits, of a number that is there.
 fn number(text: &[u8]) -> Result<(TokenKind, &[u8]), FaultRow>
     requires { (b : ℕ) × (t : Text) × (text.now ≡ b ∷ t) × (digit_of b < 10) }
-    ensures { (after_equals : Bool) → MatchResult result (λ x. IsCandidate after_equals text.now x.0 x.1.now) (λ f. IsFirstFault f after_equals text.now) }
+    ensures { (after_equals : Bool) → MatchResult result
+        (λ x. IsCandidate after_equals text.now x.0 x.1.now)
+        (λ f. IsFirstFault f after_equals text.now) }
 {
     if is_float(text) {
         return Err(FaultRow::Float);
@@ -95,7 +97,9 @@ fn number(text: &[u8]) -> Result<(TokenKind, &[u8]), FaultRow>
 
 /// A text, behind its quote.
 fn quoted(behind: &[u8]) -> Result<(TokenKind, &[u8]), FaultRow>
-    ensures { (after_equals : Bool) → MatchResult result (λ x. IsCandidate after_equals (34 ∷ behind.now) x.0 x.1.now) (λ f. IsFirstFault f after_equals (34 ∷ behind.now)) }
+    ensures { (after_equals : Bool) → MatchResult result
+        (λ x. IsCandidate after_equals (34 ∷ behind.now) x.0 x.1.now)
+        (λ f. IsFirstFault f after_equals (34 ∷ behind.now)) }
 {
     match past_units(b'"', behind) {
         None => Err(FaultRow::Unclosed),
@@ -112,7 +116,9 @@ fn quoted(behind: &[u8]) -> Result<(TokenKind, &[u8]), FaultRow>
 /// An expression, behind its `/`.
 fn regex(behind: &[u8]) -> Result<(TokenKind, &[u8]), FaultRow>
     requires { (rest : Text) → ¬ Piece (47 ∷ behind.now) rest }
-    ensures { (after_equals : Bool) → MatchResult result (λ x. IsCandidate after_equals (47 ∷ behind.now) x.0 x.1.now) (λ f. IsFirstFault f after_equals (47 ∷ behind.now)) }
+    ensures { (after_equals : Bool) → MatchResult result
+        (λ x. IsCandidate after_equals (47 ∷ behind.now) x.0 x.1.now)
+        (λ f. IsFirstFault f after_equals (47 ∷ behind.now)) }
 {
     let (is_comment, _) = past_byte(b'*', behind);
     if is_comment {
@@ -135,7 +141,8 @@ fn regex(behind: &[u8]) -> Result<(TokenKind, &[u8]), FaultRow>
 
 /// A hex literal, behind its brace.
 fn hex(behind: &[u8]) -> Result<(TokenKind, &[u8]), FaultRow>
-    ensures { MatchResult result (λ x. IsCandidate true (123 ∷ behind.now) x.0 x.1.now) (λ f. IsFirstFault f true (123 ∷ behind.now)) }
+    ensures { MatchResult result (λ x. IsCandidate true (123 ∷ behind.now) x.0 x.1.now)
+        (λ f. IsFirstFault f true (123 ∷ behind.now)) }
 {
     match past_hex(behind) {
         None => Err(FaultRow::Unclosed),
@@ -152,7 +159,8 @@ fn begins_hex(after_equals: bool, b: u8) -> bool
 /// What stands behind a byte that is no letter, digit, `_`, quote, `/`, `$`, `#`, `@` or `!`: a hex literal or a sign.
 fn hex_or_sign(after_equals: bool, b: u8, behind: &[u8]) -> Result<(TokenKind, &[u8]), FaultRow>
     requires { IsOther b }
-    ensures { MatchResult result (λ x. IsCandidate after_equals (b ∷ behind.now) x.0 x.1.now) (λ f. IsFirstFault f after_equals (b ∷ behind.now)) }
+    ensures { MatchResult result (λ x. IsCandidate after_equals (b ∷ behind.now) x.0 x.1.now)
+        (λ f. IsFirstFault f after_equals (b ∷ behind.now)) }
 {
     if begins_hex(after_equals, b) {
         return hex(behind);
@@ -166,7 +174,8 @@ fn hex_or_sign(after_equals: bool, b: u8, behind: &[u8]) -> Result<(TokenKind, &
 /// What stands behind a byte that is no letter, digit, `_`, quote or `/`.
 fn name_or_sign(after_equals: bool, b: u8, behind: &[u8]) -> Result<(TokenKind, &[u8]), FaultRow>
     requires { IsNoWord b }
-    ensures { MatchResult result (λ x. IsCandidate after_equals (b ∷ behind.now) x.0 x.1.now) (λ f. IsFirstFault f after_equals (b ∷ behind.now)) }
+    ensures { MatchResult result (λ x. IsCandidate after_equals (b ∷ behind.now) x.0 x.1.now)
+        (λ f. IsFirstFault f after_equals (b ∷ behind.now)) }
 {
     match b {
         b'$' => Ok(string_name(behind)),
@@ -186,7 +195,8 @@ fn candidate<'a>(
 ) -> Result<(TokenKind, &'a [u8]), FaultRow>
     requires whole { text.now ≡ b ∷ behind.now }
     requires no_piece { (rest : Text) → ¬ Piece text.now rest }
-    ensures { MatchResult result (λ x. IsCandidate after_equals text.now x.0 x.1.now) (λ f. IsFirstFault f after_equals text.now) }
+    ensures { MatchResult result (λ x. IsCandidate after_equals text.now x.0 x.1.now)
+        (λ f. IsFirstFault f after_equals text.now) }
 {
     if b.is_ascii_alphabetic() || b == b'_' {
         return Ok(word(text));
@@ -220,7 +230,8 @@ fn name_length(kind: TokenKind, length: usize) -> usize
 pub fn scan(after_equals: bool, text: &[u8]) -> Result<(TokenKind, &[u8]), FaultRow>
     requires some { text.now ≢ [] }
     requires no_piece { (rest : Text) → ¬ Piece text.now rest }
-    ensures { MatchResult result (λ x. IsToken after_equals text.now x.0 x.1.now) (λ f. IsFirstFault f after_equals text.now) }
+    ensures { MatchResult result (λ x. IsToken after_equals text.now x.0 x.1.now)
+        (λ f. IsFirstFault f after_equals text.now) }
 {
     match text {
         [] => Err(FaultRow::BadByte),

@@ -8,7 +8,26 @@ fn is_sign_byte(b: u8) -> bool
 {
     matches!(
         b,
-        b'{' | b'}' | b'(' | b')' | b'[' | b']' | b':' | b',' | b'.' | b'=' | b'<' | b'>' | b'+' | b'-' | b'*' | b'\\' | b'%' | b'&' | b'^' | b'|' | b'~'
+        b'{' | b'}'
+            | b'('
+            | b')'
+            | b'['
+            | b']'
+            | b':'
+            | b','
+            | b'.'
+            | b'='
+            | b'<'
+            | b'>'
+            | b'+'
+            | b'-'
+            | b'*'
+            | b'\\'
+            | b'%'
+            | b'&'
+            | b'^'
+            | b'|'
+            | b'~'
     )
 }
 
@@ -25,14 +44,16 @@ fn is_sign_pair(b: u8, c: u8) -> bool
 }
 
 fn past_sign_byte(b: u8, rest: &[u8]) -> Option<&[u8]>
-    ensures { MatchOption result (reading.past_sign_byte b rest.now ≡ None) (λ x. reading.past_sign_byte b rest.now ≡ Some x.now) }
+    ensures { MatchOption result (reading.past_sign_byte b rest.now ≡ None)
+        (λ x. reading.past_sign_byte b rest.now ≡ Some x.now) }
 {
     if is_sign_byte(b) { Some(rest) } else { None }
 }
 
 /// What follows the longest sign that begins with this byte.
 pub fn past_sign(b: u8, rest: &[u8]) -> Option<&[u8]>
-    ensures { MatchOption result (reading.past_sign b rest.now ≡ None) (λ x. reading.past_sign b rest.now ≡ Some x.now) }
+    ensures { MatchOption result (reading.past_sign b rest.now ≡ None)
+        (λ x. reading.past_sign b rest.now ≡ Some x.now) }
 {
     match rest {
         [c, more @ ..] if is_sign_pair(b, *c) => Some(more),

@@ -11,7 +11,8 @@ use yr_base::NoMemory;
 /// What follows the units and the closing quote.
 #[tactic(auto, unfolding(crate::specs::Reading::past_units))]
 pub fn past_units(quote: u8, text: &[u8]) -> Option<&[u8]>
-    ensures { MatchOption result (reading.past_units quote false text.now ≡ None) (λ x. reading.past_units quote false text.now ≡ Some x.now) }
+    ensures { MatchOption result (reading.past_units quote false text.now ≡ None)
+        (λ x. reading.past_units quote false text.now ≡ Some x.now) }
 {
     let mut rest = text;
     let mut is_escaped = false;
@@ -29,7 +30,8 @@ pub fn past_units(quote: u8, text: &[u8]) -> Option<&[u8]>
 }
 
 fn code_in(text: &[u8]) -> Option<(u8, &[u8])>
-    ensures { MatchOption result (reading.code_in text.now ≡ None) (λ x. reading.code_in text.now ≡ Some (x.0, x.1.now)) }
+    ensures { MatchOption result (reading.code_in text.now ≡ None)
+        (λ x. reading.code_in text.now ≡ Some (x.0, x.1.now)) }
 {
     match text {
         [h, l, rest @ ..] => {
@@ -46,7 +48,8 @@ fn code_in(text: &[u8]) -> Option<(u8, &[u8])>
 }
 
 fn escape_of(text: &[u8]) -> Option<(u8, &[u8])>
-    ensures { MatchOption result (reading.escape_of text.now ≡ None) (λ x. reading.escape_of text.now ≡ Some (x.0, x.1.now)) }
+    ensures { MatchOption result (reading.escape_of text.now ≡ None)
+        (λ x. reading.escape_of text.now ≡ Some (x.0, x.1.now)) }
 {
     match text {
         [b'"', rest @ ..] => Some((b'"', rest)),
@@ -62,7 +65,8 @@ fn escape_of(text: &[u8]) -> Option<(u8, &[u8])>
 /// The byte that a unit of a text stands for, and what follows.
 #[tactic(auto, unfolding(crate::specs::Reading::unit_of))]
 fn unit_of(text: &[u8]) -> Option<(u8, &[u8])>
-    ensures { MatchOption result (reading.unit_of text.now ≡ None) (λ x. reading.unit_of text.now ≡ Some (x.0, x.1.now)) }
+    ensures { MatchOption result (reading.unit_of text.now ≡ None)
+        (λ x. reading.unit_of text.now ≡ Some (x.0, x.1.now)) }
 {
     match text {
         [] => None,

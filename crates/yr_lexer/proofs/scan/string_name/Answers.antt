@@ -1,7 +1,3 @@
-use Rattle.std.proofs.Common.{◌∙◌, sym, ap, subst}
-use Rattle.std.specs.Prelude.{◌≡◌}
-use Rattle.yr_lexer.specs.Gaps.{Text}
-use Rattle.yr_lexer.specs.Candidates.{IsCandidate}
 use Rattle.yr_lexer.proofs.NameLemmas.{string_name-wild, string_name-plain}
 use Rattle.yr_lexer.proofs.scan.string_name.Goals as goal
 

@@ -1,4 +1,3 @@
-use Rattle.std.proofs.Common.{arith}
 use Rattle.yr_lexer.proofs.NameLemmas.{word-within, word-reserved, word-plain}
 use Rattle.yr_lexer.proofs.scan.word.Goals as goal
 

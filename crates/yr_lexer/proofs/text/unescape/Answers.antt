@@ -1,4 +1,4 @@
-use Rattle.std.proofs.Common.{List, ℕ, ◌∷◌, [], ◌++◌, append_assoc, append-nil, subst, arith}
+use Rattle.std.proofs.Common.{List, ℕ, append_assoc, append-nil, subst, arith}
 use Rattle.yr_lexer.specs.Texts.{unit, Unescapes}
 use Rattle.yr_lexer.proofs.EscapeLemmas.{unit-some, Stands-shorter, unescapes-next, unescapes-all}
 use Rattle.yr_lexer.proofs.text.unescape.Goals as goal

@@ -1,4 +1,3 @@
-use Rattle.std.proofs.Common.{◌∙◌}
 use Rattle.yr_lexer.proofs.SourceLemmas.{spelled-at}
 use Rattle.yr_lexer.proofs.tokens.Tokens.text.Goals as goal
 

@@ -1,0 +1,16 @@
+pub mod ListLemmas
+pub mod GoodLemmas
+pub mod SuffixLemmas
+pub mod OntoLemmas
+pub mod KeyLemmas
+pub mod KeyedLemmas
+pub mod RowLemmas
+pub mod SearchLemmas
+pub mod BuildLemmas
+pub mod CollectLemmas
+pub mod PrepareLemmas
+pub mod OutputLemmas
+pub mod TimesLemmas
+pub mod RowsLemmas
+pub mod MadeLemmas
+pub mod EncodeLemmas

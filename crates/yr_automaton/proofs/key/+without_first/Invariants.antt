@@ -1,0 +1,4 @@
+use Rattle.yr_automaton.proofs.key.+without_first.Given as goal
+
+abbrev pub decreases-without_first : goal.decreases-without_first
+decreases-without_first l = l.key

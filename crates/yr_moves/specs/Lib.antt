@@ -1,0 +1,4 @@
+pub mod Programs
+pub mod Marked
+pub mod Passes
+pub mod Walks
