@@ -1,18 +1,22 @@
 -- The tokens of one file, and the open files where more files are read.
-use Rattle.std.proofs.Common.{◌≡◌, ℕ, zero, suc, ◌+◌, ◌-◌, ◌≤◌, ◌<◌, Bool, true, false, cond, ◌&&◌, ◌||◌, List, [], ◌∷◌, ◌++◌, length, drop, get_or, map, Option, Some, None, Result, Ok, Err, refl, sym, ap, ◌∙◌, subst, length-append, append_assoc, append-nil, arith}
+use Rattle.std.proofs.Common.{◌≡◌, ℕ, zero, suc, ◌+◌, ◌-◌, ◌≤◌, ◌<◌, Bool, true, false, cond, ◌&&◌, ◌||◌, List, [], ◌∷◌, ◌++◌, length, take, drop, get_or, map, Option, Some, None, Result, Ok, Err, refl, sym, ap, ◌∙◌, subst, length-append, append_assoc, append-nil, take-append-drop, arith}
 use Rattle.std.specs.Prelude.{slice_get, All, slice_range}
 use Rattle.std.specs.Str.{bytes_eq}
 use Rattle.std.specs.List.{list_any}
+use Rattle.std.proofs.Math.ListN.{drop_of_length-le}
+use Rattle.std.proofs.lemmas.List.{length-map}
+use Rattle.std.proofs.lemmas.List.Folds.{list_any_at, list_any_more}
 use Rattle.std.proofs.lemmas.Option.{none-some}
 use Rattle.std.proofs.lemmas.List.Elements.{All-nil, All-cons, All-head, All-tail, All-append}
 use Rattle.yr_base.specs.Store.{Files}
 use Rattle.yr_lexer.specs.declared.token.Token.{Token}
 use Rattle.yr_lexer.specs.declared.source.FileToken.{FileToken}
+use Rattle.yr_lexer.specs.declared.source.SourceFile.{SourceFile}
 use Rattle.yr_lexer.specs.declared.fault.LexFault.{LexFault}
 use Rattle.yr_lexer.specs.declared.frame.Frame.{Frame}
 use Rattle.yr_lexer.specs.declared.frame.Include.{Include}
 use Rattle.yr_lexer.specs.Gaps.{Text}
-use Rattle.yr_lexer.specs.Sources.{File, text_at, LiesIn, LiesInFile}
+use Rattle.yr_lexer.specs.Sources.{File, file_of, text_at, LiesIn, LiesInFile}
 use Rattle.yr_lexer.specs.Includes.{Walk, Walked, gathers, with_tokens, followed_by, is_name_among, is_include, is_text_kind, inside_of, token_walk}
 use Rattle.yr_lexer.specs.OpenFiles.{name_at, OpenFile, open_file, open_files, open_names, left_of, front_include, goes_on, LiesOpen}
 use Rattle.yr_lexer.proofs.WalkLemmas.{with_tokens-more}
@@ -170,3 +174,33 @@ among-any files name (f ∷ fs) = among-last name (open_files files fs) (open_fi
     or-swap true false = refl
     or-swap false true = refl
     or-swap false false = refl
+
+-- a name is looked for among those of the open files
+module _ (files : List SourceFile) (frames : List Frame) (name : List ℕ) (i : ℕ) (frame : Frame) (within : i < length frames) (is : frame ≡ get_or frames i frame) where
+  pub open-there : All (LiesOpen (map file_of files)) frames → frame.file < length files
+  open-there lies =
+      let h : LiesOpen (map file_of files) frame = subst (λ (f : Frame). LiesOpen (map file_of files) f) (sym is) (lies i frame within) in
+      let l = length-map files file_of in
+      let t = h.there in
+      omega arith
+
+  pub found-open : bytes_eq (name_at (map file_of files) frame.file) name ≡ true → true ≡ is_name_among name (open_names (open_files (map file_of files) frames))
+  found-open e =
+      sym (among-any (map file_of files) name frames
+      ∙ list_any_at (λ f. bytes_eq (name_at (map file_of files) f.file) name) frames i frame within
+      (subst (λ (f : Frame). bytes_eq (name_at (map file_of files) f.file) name ≡ true) is e))
+
+  pub none-more : list_any (λ f. bytes_eq (name_at (map file_of files) f.file) name) (take i frames) ≡ false → bytes_eq (name_at (map file_of files) frame.file) name ≡ false
+      → list_any (λ f. bytes_eq (name_at (map file_of files) f.file) name) (take (i + 1) frames) ≡ false
+  none-more so_far e =
+      list_any_more (λ f. bytes_eq (name_at (map file_of files) f.file) name) frames i frame within
+      ∙ ap (λ (b : Bool). b || bytes_eq (name_at (map file_of files) (get_or frames i frame).file) name) so_far
+      ∙ subst (λ (f : Frame). bytes_eq (name_at (map file_of files) f.file) name ≡ false) is e
+
+take-all : (frames : List Frame) (i : ℕ) → length frames ≤ i → take i frames ≡ frames
+take-all frames i all = sym (append-nil (take i frames)) ∙ ap (λ (l : List Frame). take i frames ++ l) (sym (drop_of_length-le frames all)) ∙ take-append-drop i frames
+
+pub none-open : (files : List File) (frames : List Frame) (name : List ℕ) (i : ℕ) → length frames ≤ i
+    → list_any (λ f. bytes_eq (name_at files f.file) name) (take i frames) ≡ false → false ≡ is_name_among name (open_names (open_files files frames))
+none-open files frames name i all e =
+    sym (among-any files name frames ∙ subst (λ (l : List Frame). list_any (λ f. bytes_eq (name_at files f.file) name) l ≡ false) (take-all frames i all) e)

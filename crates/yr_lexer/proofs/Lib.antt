@@ -23,3 +23,7 @@ pub mod FrameLemmas
 pub mod PassLemmas
 pub mod OneLemmas
 pub mod CallerLemmas
+pub mod StateLemmas
+pub mod StepLemmas
+pub mod PathLemmas
+pub mod AdvanceLemmas

@@ -8,6 +8,7 @@ ghost use Rattle.yr_lexer.specs.declared.token.Token.{Token};
 ghost use Rattle.yr_lexer.specs.declared.fault.LexFault.{LexFault};
 ghost use Rattle.yr_lexer.specs.Gaps.{Text};
 ghost use Rattle.yr_lexer.specs.Texts.{Unescapes};
+ghost use Rattle.yr_lexer.specs.Tokens.{ExplainsLex};
 ghost use Rattle.yr_lexer.specs.Sources.{file_of, text_at, LiesIn};
 ghost use Rattle.yr_lexer.specs.Includes as includes;
 ghost use Rattle.yr_lexer.specs.Includes.{IsLexing, IsUnescaping, walk_of};
@@ -72,7 +73,8 @@ fn inside_of(text: &[u8], token: Token) -> &[u8]
 fn path_of(alloc: Global, including: &SourceFile, include: Include) -> Result<String, GatherFault>
     requires lies { LiesIn including.now.text.items include.path }
     requires text { includes.is_text_kind include.path.kind ≡ true }
-    ensures { (unescaped : List ℕ → List ℕ) → IsUnescaping unescaped
+    ensures cause { (before after : ℕ) → IfErr result (λ why. HasCause why before after) }
+    ensures path { (unescaped : List ℕ → List ℕ) → IsUnescaping unescaped
         → FitsPath (unescaped (includes.inside_of including.now.text.items include.path)) (string_bytes including.now.name) include.line result }
 {
     let Ok(bytes) = unescape(alloc, inside_of(including.text.as_slice(), include.path)) else {
@@ -87,20 +89,32 @@ fn path_of(alloc: Global, including: &SourceFile, include: Include) -> Result<St
     }
 }
 
+/// The refusal of a file whose text has no tokens.
+fn refusal_of(alloc: Global, file: &SourceFile, fault: LexFault) -> GatherFault
+    ensures cause { (before after : ℕ) → HasCause result before after }
+    ensures lexed { (lexed : Text → Result (List Token) LexFault) → IsLexing lexed → (text : Text) → ExplainsLex text fault
+        → FitsLex (lexed text) (string_bytes file.now.name) result }
+{
+    match fault {
+        LexFault::NoMemory => GatherFault::NoMemory,
+        _ => match String::from_str(alloc, file.name.as_str()) {
+            Ok(file) => GatherFault::Lex { file, fault },
+            Err(_) => GatherFault::NoMemory,
+        },
+    }
+}
+
 /// The tokens of a file that was read.
 fn lex_file(alloc: Global, file: &SourceFile) -> Result<Vec<Token>, GatherFault>
     requires { length file.now.text.items ≤ 2 ^ 24 }
+    ensures cause { (before after : ℕ) → IfErr result (λ why. HasCause why before after) }
     ensures tokens { IfOk result (λ tokens. (length tokens.items ≤ length file.now.text.items) × All (LiesIn file.now.text.items) tokens.items) }
     ensures lexed { (lexed : Text → Result (List Token) LexFault) → IsLexing lexed
         → MatchResult result (λ tokens. lexed file.now.text.items ≡ Ok tokens.items) (FitsLex (lexed file.now.text.items) (string_bytes file.now.name)) }
 {
     match lex(alloc, file.text.as_slice()) {
         Ok(tokens) => Ok(tokens),
-        Err(LexFault::NoMemory) => Err(GatherFault::NoMemory),
-        Err(fault) => Err(GatherFault::Lex {
-            file: String::from_str(alloc, file.name.as_str())?,
-            fault,
-        }),
+        Err(fault) => Err(refusal_of(alloc, file, fault)),
     }
 }
 
@@ -173,7 +187,8 @@ impl Gathering {
         ensures frames { OnOk result (self.new.frames.items ≡ self.old.frames.items ++ record { file = length self.old.files.items; tokens = tokens; at = 0 } ∷ []) }
         ensures room { OnOk result (self.new.room ≡ self.old.room - length file.text.items) }
     {
-        self.room -= file.text.len() as u32;
+        let room = self.room;
+        self.room = room - file.text.len() as u32;
         self.frames.push(Frame {
             file: self.files.len() as u32,
             tokens,
