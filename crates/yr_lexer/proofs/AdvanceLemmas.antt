@@ -212,8 +212,8 @@ opened-gathering s t g ok few open_too files_are frames_are room_is lies = recor
   few = let a = ap (λ (l : List Frame). length l) frames_are ∙ length-append s.frames.items (g ∷ []) in omega arith;
   lies = rw files_are lies;
   open_lies =
-    rw (files_are, frames_are)
-    (All-append (LiesOpen (files_in s)) s.frames.items (g ∷ []) ok.open_lies (All-cons (LiesOpen (files_in s)) g [] open_too (All-nil (LiesOpen (files_in s)))));
+      rw (files_are, frames_are)
+      (All-append (LiesOpen (files_in s)) s.frames.items (g ∷ []) ok.open_lies (All-cons (LiesOpen (files_in s)) g [] open_too (All-nil (LiesOpen (files_in s)))));
 }
 
 -- an open file after some of its tokens
@@ -321,8 +321,7 @@ module _ (lexed : Text → Result (List Token) LexFault) (unescaped : List ℕ �
       → FitsWalk (walk_of lexed unescaped files name) (Ok (record { files = files_in s; tokens = s.tokens.items })) old new
   follows-end s new follows none =
       let e : walk_of lexed unescaped files name ≡ gathers (s.tokens.items ++ []) (walked (files_in s)) =
-          follows.walk ∙ ap (λ (l : List Frame). with_tokens s.tokens.items (resume lexed unescaped files (open_files (files_in s) l) (walked (files_in s)))) none in
-      (
+      follows.walk ∙ ap (λ (l : List Frame). with_tokens s.tokens.items (resume lexed unescaped files (open_files (files_in s) l) (walked (files_in s)))) none in (
         ap (λ (k : Walk). k.answer) e ∙ ap (λ (l : List FileToken). Ok l) (append-nil s.tokens.items),
         ap (λ (k : Walk). k.after.files) e,
         subst (λ (k : Walk). NotesAll old new k.after.reads) (sym e) follows.noted,

@@ -80,7 +80,7 @@ module _ (number : ℕ) (text : Text) where
     walk-include (t ∷ u ∷ ts) i w e =
         let p = pair-front t u ts i e in
         let P : Include → Type 0 = λ j. followed_by (include t.line (unescaped (inside_of text u)) w) (token_walk lexed unescaped files include number text ts)
-            ≡ goes_on lexed unescaped files include number text (Some j) ts w in
+        ≡ goes_on lexed unescaped files include number text (Some j) ts w in
         rw p.0 (subst P p.1 refl)
 
     -- one plain token is gathered

@@ -74,8 +74,8 @@ inside-good text t h e =
     let b = h.within in
     let l = length-drop t.from text in
     let s : inside_of text t ≡ g.0 =
-        ap (λ n. take n (drop (t.from + 1) text)) (omega arith) ∙ ap (λ (x : Text). take (t.to - t.from - 2) x) (sym (drop-drop 1 t.from text ∙ ap (λ n. drop n text) (omega arith)))
-        ∙ inner (drop t.from text) (t.to - t.from) g.0 34 34 (omega arith) g.2 in
+    ap (λ n. take n (drop (t.from + 1) text)) (omega arith) ∙ ap (λ (x : Text). take (t.to - t.from - 2) x) (sym (drop-drop 1 t.from text ∙ ap (λ n. drop n text) (omega arith)))
+    ∙ inner (drop t.from text) (t.to - t.from) g.0 34 34 (omega arith) g.2 in
     (g.1, subst (λ (x : Text). Unescapes x g.1) (sym s) g.3)
 
 module _ (unescaped : List ℕ → List ℕ) (is : IsUnescaping unescaped) where

@@ -85,21 +85,21 @@ module _ (s t : Gathering) (file : SourceFile) (frame : Frame) (adds : Adds s t 
     pub added-gathering : IsGathering t
     added-gathering = record {
       room =
-        let a = adds.room in
-        let b = ok.room in
-        let e = ap (λ (l : List File). sum_by (λ (f : File). length f.text) l) added-files ∙ sum_by-append (λ (f : File). length f.text) (files_in s) (file_of file ∷ []) in
-        omega arith;
+          let a = adds.room in
+          let b = ok.room in
+          let e = ap (λ (l : List File). sum_by (λ (f : File). length f.text) l) added-files ∙ sum_by-append (λ (f : File). length f.text) (files_in s) (file_of file ∷ []) in
+          omega arith;
       few = let a = ap (λ (l : List Frame). length l) adds.frames ∙ length-append s.frames.items (frame ∷ []) in omega arith;
       lies =
-        rw adds.tokens
-        (subst (λ (l : List File). All (LiesInFile l) s.tokens.items) (sym added-files)
-        (All-more (LiesInFile (files_in s)) (LiesInFile (files_in s ++ file_of file ∷ [])) (LiesInFile-grown (files_in s) (file_of file)) s.tokens.items ok.lies));
+          rw adds.tokens
+          (subst (λ (l : List File). All (LiesInFile l) s.tokens.items) (sym added-files)
+          (All-more (LiesInFile (files_in s)) (LiesInFile (files_in s ++ file_of file ∷ [])) (LiesInFile-grown (files_in s) (file_of file)) s.tokens.items ok.lies));
       open_lies =
-        rw adds.frames
-        (subst (λ (l : List File). All (LiesOpen l) (s.frames.items ++ frame ∷ [])) (sym added-files)
-        (All-append (LiesOpen (files_in s ++ file_of file ∷ [])) s.frames.items (frame ∷ [])
-        (All-more (LiesOpen (files_in s)) (LiesOpen (files_in s ++ file_of file ∷ [])) (LiesOpen-grown (files_in s) (file_of file)) s.frames.items ok.open_lies)
-        (All-cons (LiesOpen (files_in s ++ file_of file ∷ [])) frame [] frame-lies (All-nil (LiesOpen (files_in s ++ file_of file ∷ []))))));
+          rw adds.frames
+          (subst (λ (l : List File). All (LiesOpen l) (s.frames.items ++ frame ∷ [])) (sym added-files)
+          (All-append (LiesOpen (files_in s ++ file_of file ∷ [])) s.frames.items (frame ∷ [])
+          (All-more (LiesOpen (files_in s)) (LiesOpen (files_in s ++ file_of file ∷ [])) (LiesOpen-grown (files_in s) (file_of file)) s.frames.items ok.open_lies)
+          (All-cons (LiesOpen (files_in s ++ file_of file ∷ [])) frame [] frame-lies (All-nil (LiesOpen (files_in s ++ file_of file ∷ []))))));
     }
 
     pub added-work : work_left t ≤ work_left s + 1

@@ -146,6 +146,7 @@ module _ (lexed : Text → Result (List Token) LexFault) (unescaped : List ℕ �
         by_length : (text : Text) → files name ≡ Some text → (b : Bool) → nat_lt (room_after w.files) (length text) ≡ b → Extends (w.reads ++ name ∷ []) (name_walk lexed unescaped files deeper outer name w)
         by_length text e true long = rw (name_walk-long deeper outer name w text e long) (extends-same (w.reads ++ name ∷ []) (stops (TextTooLong name) (with_read name w)) refl)
         by_length text e false fits = rw (name_walk-fits deeper outer name w text e fits) (text_walk-reads outer name text w)
+
         by_file : (o : Option Text) → files name ≡ o → Extends (w.reads ++ name ∷ []) (name_walk lexed unescaped files deeper outer name w)
         by_file None e = rw (name_walk-missing deeper outer name w e) (extends-same (w.reads ++ name ∷ []) (stops (Read name) (with_read name w)) refl)
         by_file (Some text) e = by_length text e (nat_lt (room_after w.files) (length text)) refl

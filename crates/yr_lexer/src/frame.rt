@@ -81,15 +81,22 @@ impl Frame {
     ) -> Result<Option<Include>, AllocError>
         requires within { self.old.at ≤ length self.old.tokens.items }
         requires lies { All (LiesIn text.now) self.old.tokens.items }
-        ensures same { OnOk result ((self.new.file ≡ self.old.file) × (self.new.tokens.items ≡ self.old.tokens.items) × (self.new.at ≤ length self.old.tokens.items)) }
-        ensures gathered { OnOk result ((files : List File) → self.old.file < length files → text_at files self.old.file ≡ text.now
-            → All (LiesInFile files) tokens.old.items → All (LiesInFile files) tokens.new.items) }
-        ensures include { IfOk result (λ found. IfSome found (λ i. (i.file ≡ self.old.file) × LiesIn text.now i.path × (includes.is_text_kind i.path.kind ≡ true))) }
-        ensures passed { IfOk result (λ found. OnSome found (length (left_of self.new) + 2 ≤ length (left_of self.old))) }
-        ensures walk { IfOk result (λ found. (lexed : Text → Result (List Token) LexFault) → (unescaped : List ℕ → List ℕ) → (files : Files)
-            → (include : ℕ → List ℕ → Walked → Walk) → (w : Walked)
-            → with_tokens tokens.old.items (token_walk lexed unescaped files include self.old.file text.now (left_of self.old) w)
-            ≡ with_tokens tokens.new.items (goes_on lexed unescaped files include self.old.file text.now found (left_of self.new) w)) }
+        ensures same { OnOk result ((self.new.file ≡ self.old.file)
+            × (self.new.tokens.items ≡ self.old.tokens.items)
+            × (self.new.at ≤ length self.old.tokens.items)) }
+        ensures gathered { OnOk result ((files : List File) → self.old.file < length files
+            → text_at files self.old.file ≡ text.now → All (LiesInFile files) tokens.old.items
+            → All (LiesInFile files) tokens.new.items) }
+        ensures include { IfOk result (λ found. IfSome found (λ i. (i.file ≡ self.old.file)
+            × LiesIn text.now i.path × (includes.is_text_kind i.path.kind ≡ true))) }
+        ensures passed { IfOk result
+            (λ found. OnSome found (length (left_of self.new) + 2 ≤ length (left_of self.old))) }
+        ensures walk { IfOk result (λ found. (lexed : Text → Result (List Token) LexFault)
+            → (unescaped : List ℕ → List ℕ) → (files : Files)
+            → (include : ℕ → List ℕ → Walked → Walk) → (w : Walked) → with_tokens tokens.old.items
+            (token_walk lexed unescaped files include self.old.file text.now (left_of self.old) w)
+            ≡ with_tokens tokens.new.items
+            (goes_on lexed unescaped files include self.old.file text.now found (left_of self.new) w)) }
     {
         'tokens: while self.at < self.tokens.len() {
             if let Some(include) = front_include(self.file, text, self.left()) {

@@ -27,6 +27,9 @@ use crate::tokens::Tokens;
 use std::alloc::{AllocError, Global};
 use yr_base::{ReadAnswer, Store};
 
+#[cfg(test)]
+mod tests;
+
 /// All rule text together has at most this many bytes.
 const TEXT_LIMIT: u32 = 16_777_216;
 
@@ -45,16 +48,11 @@ pub struct Gathering {
 /// Bytes as the name of a file, where they are one.
 fn name_in(bytes: &[u8]) -> Option<&str>
     ensures { MatchOption result ((includes.is_empty bytes.now || not (is_utf8 bytes.now)) ≡ true)
-        (λ name. (name.now ≡ bytes.now) × ((includes.is_empty bytes.now || not (is_utf8 bytes.now)) ≡ false)) }
+        (λ name. (name.now ≡ bytes.now)
+        × ((includes.is_empty bytes.now || not (is_utf8 bytes.now)) ≡ false)) }
 {
     match str::from_utf8(bytes) {
-        Ok(name) => {
-            if name.is_empty() {
-                None
-            } else {
-                Some(name)
-            }
-        }
+        Ok(name) => { if name.is_empty() { None } else { Some(name) } }
         Err(_) => None,
     }
 }
@@ -75,7 +73,8 @@ fn path_of(alloc: Global, including: &SourceFile, include: Include) -> Result<St
     requires text { includes.is_text_kind include.path.kind ≡ true }
     ensures cause { (before after : ℕ) → IfErr result (λ why. HasCause why before after) }
     ensures path { (unescaped : List ℕ → List ℕ) → IsUnescaping unescaped
-        → FitsPath (unescaped (includes.inside_of including.now.text.items include.path)) (string_bytes including.now.name) include.line result }
+        → FitsPath (unescaped (includes.inside_of including.now.text.items include.path))
+        (string_bytes including.now.name) include.line result }
 {
     let Ok(bytes) = unescape(alloc, inside_of(including.text.as_slice(), include.path)) else {
         return Err(GatherFault::NoMemory);
@@ -92,8 +91,8 @@ fn path_of(alloc: Global, including: &SourceFile, include: Include) -> Result<St
 /// The refusal of a file whose text has no tokens.
 fn refusal_of(alloc: Global, file: &SourceFile, fault: LexFault) -> GatherFault
     ensures cause { (before after : ℕ) → HasCause result before after }
-    ensures lexed { (lexed : Text → Result (List Token) LexFault) → IsLexing lexed → (text : Text) → ExplainsLex text fault
-        → FitsLex (lexed text) (string_bytes file.now.name) result }
+    ensures lexed { (lexed : Text → Result (List Token) LexFault) → IsLexing lexed → (text : Text)
+        → ExplainsLex text fault → FitsLex (lexed text) (string_bytes file.now.name) result }
 {
     match fault {
         LexFault::NoMemory => GatherFault::NoMemory,
@@ -108,9 +107,11 @@ fn refusal_of(alloc: Global, file: &SourceFile, fault: LexFault) -> GatherFault
 fn lex_file(alloc: Global, file: &SourceFile) -> Result<Vec<Token>, GatherFault>
     requires { length file.now.text.items ≤ 2 ^ 24 }
     ensures cause { (before after : ℕ) → IfErr result (λ why. HasCause why before after) }
-    ensures tokens { IfOk result (λ tokens. (length tokens.items ≤ length file.now.text.items) × All (LiesIn file.now.text.items) tokens.items) }
-    ensures lexed { (lexed : Text → Result (List Token) LexFault) → IsLexing lexed
-        → MatchResult result (λ tokens. lexed file.now.text.items ≡ Ok tokens.items) (FitsLex (lexed file.now.text.items) (string_bytes file.now.name)) }
+    ensures tokens { IfOk result (λ tokens. (length tokens.items ≤ length file.now.text.items)
+        × All (LiesIn file.now.text.items) tokens.items) }
+    ensures lexed { (lexed : Text → Result (List Token) LexFault) → IsLexing lexed → MatchResult result
+        (λ tokens. lexed file.now.text.items ≡ Ok tokens.items)
+        (FitsLex (lexed file.now.text.items) (string_bytes file.now.name)) }
 {
     match lex(alloc, file.text.as_slice()) {
         Ok(tokens) => Ok(tokens),
@@ -121,7 +122,8 @@ fn lex_file(alloc: Global, file: &SourceFile) -> Result<Vec<Token>, GatherFault>
 /// Whether an open file has this name.
 fn is_open(files: &[SourceFile], frames: &[Frame], name: &str) -> bool
     requires { All (LiesOpen (map file_of files.now)) frames.now }
-    ensures { result ≡ includes.is_name_among name.now (open_names (states.open_files (map file_of files.now) frames.now)) }
+    ensures { result ≡ includes.is_name_among name.now
+        (open_names (states.open_files (map file_of files.now) frames.now)) }
 {
     for frame in frames {
         if files[frame.file as usize].name.as_str() == name {
@@ -154,9 +156,12 @@ impl Gathering {
         requires text { includes.is_text_kind include.path.kind ≡ true }
         ensures few { OnOk result (length self.now.frames.items ≤ 16) }
         ensures cause { (before after : ℕ) → IfErr result (λ why. HasCause why before after) }
-        ensures walk { (lexed : Text → Result (List Token) LexFault) → (unescaped : List ℕ → List ℕ) → (files : Files) → IsUnescaping unescaped
-            → MatchResult result (λ name. walk_at lexed unescaped files include self.now ≡ walk_into lexed unescaped files (string_bytes name) self.now)
-            (λ why. (told : Option (List Entry)) → Refuses (walk_at lexed unescaped files include self.now) (names_of (files_in self.now)) why told told) }
+        ensures walk { (lexed : Text → Result (List Token) LexFault) → (unescaped : List ℕ → List ℕ)
+            → (files : Files) → IsUnescaping unescaped → MatchResult result
+            (λ name. walk_at lexed unescaped files include self.now
+            ≡ walk_into lexed unescaped files (string_bytes name) self.now)
+            (λ why. (told : Option (List Entry)) → Refuses (walk_at lexed unescaped files include self.now)
+            (names_of (files_in self.now)) why told told) }
     {
         let including = &self.files[include.file as usize];
         let path = path_of(alloc, including, include)?;
@@ -184,7 +189,8 @@ impl Gathering {
         requires numbered { length self.old.files.items < 2 ^ 32 }
         ensures files { OnOk result (self.new.files.items ≡ self.old.files.items ++ file ∷ []) }
         ensures tokens { OnOk result (self.new.tokens ≡ self.old.tokens) }
-        ensures frames { OnOk result (self.new.frames.items ≡ self.old.frames.items ++ record { file = length self.old.files.items; tokens = tokens; at = 0 } ∷ []) }
+        ensures frames { OnOk result (self.new.frames.items ≡ self.old.frames.items
+            ++ record { file = length self.old.files.items; tokens = tokens; at = 0 } ∷ []) }
         ensures room { OnOk result (self.new.room ≡ self.old.room - length file.text.items) }
     {
         let room = self.room;
@@ -205,13 +211,17 @@ impl Gathering {
         requires few { length self.old.frames.items ≤ 16 }
         requires numbered { length self.old.files.items < 2 ^ 32 }
         ensures whole { OnOk result (IsGathering self.new) }
-        ensures names { OnOk result (names_of (files_in self.new) ≡ names_of (files_in self.old) ++ string_bytes file.name ∷ []) }
-        ensures work { OnOk result ((work_left self.new ≤ work_left self.old + 1) × (length self.new.files.items ≡ length self.old.files.items + 1)) }
+        ensures names { OnOk result (names_of (files_in self.new)
+            ≡ names_of (files_in self.old) ++ string_bytes file.name ∷ []) }
+        ensures work { OnOk result ((work_left self.new ≤ work_left self.old + 1)
+            × (length self.new.files.items ≡ length self.old.files.items + 1)) }
         ensures cause { (before after : ℕ) → IfErr result (λ why. HasCause why before after) }
-        ensures walk { (lexed : Text → Result (List Token) LexFault) → (unescaped : List ℕ → List ℕ) → (files : Files) → IsLexing lexed
-            → files (string_bytes file.name) ≡ Some file.text.items
-            → MatchResult result (λ _. walk_into lexed unescaped files (string_bytes file.name) self.old ≡ walk_from lexed unescaped files self.new)
-            (λ why. (told : Option (List Entry)) → Refuses (walk_into lexed unescaped files (string_bytes file.name) self.old) (names_of (files_in self.old) ++ string_bytes file.name ∷ []) why told told) }
+        ensures walk { (lexed : Text → Result (List Token) LexFault) → (unescaped : List ℕ → List ℕ)
+            → (files : Files) → IsLexing lexed → files (string_bytes file.name) ≡ Some file.text.items
+            → MatchResult result (λ _. walk_into lexed unescaped files (string_bytes file.name) self.old
+            ≡ walk_from lexed unescaped files self.new) (λ why. (told : Option (List Entry))
+            → Refuses (walk_into lexed unescaped files (string_bytes file.name) self.old)
+            (names_of (files_in self.old) ++ string_bytes file.name ∷ []) why told told) }
     {
         let tokens = lex_file(alloc, &file)?;
         self.add(file, tokens)?;
@@ -219,17 +229,26 @@ impl Gathering {
     }
 
     /// Reads a file by its name and opens it.
-    fn enter<S: Store>(&mut self, alloc: Global, store: &mut S, name: String) -> Result<(), GatherFault>
+    fn enter<S: Store>(
+        &mut self,
+        alloc: Global,
+        store: &mut S,
+        name: String,
+    ) -> Result<(), GatherFault>
         requires whole { IsGathering self.old }
         requires few { length self.old.frames.items ≤ 16 }
         requires numbered { length self.old.files.items < 2 ^ 32 }
         ensures store { (S.files store.new ≡ S.files store.old) × (S.faults store.old ≤ S.faults store.new) }
-        ensures cause { IfErr result (λ why. HasCause why (S.faults store.old) (S.faults store.new)) }
+        ensures cause { IfErr result
+            (λ why. HasCause why (S.faults store.old) (S.faults store.new)) }
         ensures whole { OnOk result (IsGathering self.new) }
-        ensures work { OnOk result ((work_left self.new ≤ work_left self.old + 1) × (length self.new.files.items ≡ length self.old.files.items + 1)) }
-        ensures walk { (lexed : Text → Result (List Token) LexFault) → (unescaped : List ℕ → List ℕ) → (files : Files) → S.files store.old ≡ Some files
-            → IsLexing lexed → Leads (walk_into lexed unescaped files (string_bytes name) self.old) (names_of (files_in self.old)) result
-            (walk_from lexed unescaped files self.new) (names_of (files_in self.new)) (S.trace store.old) (S.trace store.new) }
+        ensures work { OnOk result ((work_left self.new ≤ work_left self.old + 1)
+            × (length self.new.files.items ≡ length self.old.files.items + 1)) }
+        ensures walk { (lexed : Text → Result (List Token) LexFault) → (unescaped : List ℕ → List ℕ)
+            → (files : Files) → S.files store.old ≡ Some files → IsLexing lexed
+            → Leads (walk_into lexed unescaped files (string_bytes name) self.old) (names_of (files_in self.old))
+            result (walk_from lexed unescaped files self.new) (names_of (files_in self.new))
+            (S.trace store.old) (S.trace store.new) }
     {
         let mut text = Vec::new(alloc);
         match store.read_file(alloc, name.as_str(), self.room, &mut text) {
@@ -241,19 +260,28 @@ impl Gathering {
     }
 
     /// Goes on in the innermost open file, up to its end or into its next include.
-    fn advance<S: Store>(&mut self, alloc: Global, store: &mut S, mut frame: Frame) -> Result<(), GatherFault>
+    fn advance<S: Store>(
+        &mut self,
+        alloc: Global,
+        store: &mut S,
+        mut frame: Frame,
+    ) -> Result<(), GatherFault>
         requires whole { IsGathering self.old }
         requires few { length self.old.frames.items ≤ 16 }
         requires lies { LiesOpen (files_in self.old) frame }
         requires numbered { length self.old.files.items < 2 ^ 32 }
         ensures store { (S.files store.new ≡ S.files store.old) × (S.faults store.old ≤ S.faults store.new) }
-        ensures cause { IfErr result (λ why. HasCause why (S.faults store.old) (S.faults store.new)) }
+        ensures cause { IfErr result
+            (λ why. HasCause why (S.faults store.old) (S.faults store.new)) }
         ensures whole { OnOk result (IsGathering self.new) }
         ensures less { OnOk result (work_left self.new ≤ work_left self.old + length (left_of frame)) }
-        ensures numbered { OnOk result (length self.new.files.items + work_left self.new ≤ length self.old.files.items + work_left self.old + length (left_of frame) + 1) }
-        ensures walk { (lexed : Text → Result (List Token) LexFault) → (unescaped : List ℕ → List ℕ) → (files : Files) → S.files store.old ≡ Some files
-            → IsLexing lexed → IsUnescaping unescaped → Leads (walk_with lexed unescaped files frame self.old) (names_of (files_in self.old)) result
-            (walk_from lexed unescaped files self.new) (names_of (files_in self.new)) (S.trace store.old) (S.trace store.new) }
+        ensures numbered { OnOk result (length self.new.files.items + work_left self.new
+            ≤ length self.old.files.items + work_left self.old + length (left_of frame) + 1) }
+        ensures walk { (lexed : Text → Result (List Token) LexFault) → (unescaped : List ℕ → List ℕ)
+            → (files : Files) → S.files store.old ≡ Some files → IsLexing lexed → IsUnescaping unescaped
+            → Leads (walk_with lexed unescaped files frame self.old) (names_of (files_in self.old))
+            result (walk_from lexed unescaped files self.new) (names_of (files_in self.new))
+            (S.trace store.old) (S.trace store.new) }
     {
         let text = self.files[frame.file as usize].text.as_slice();
         let Some(include) = frame.gather_plain(text, &mut self.tokens)? else {
@@ -270,8 +298,11 @@ pub fn gather<S: Store>(alloc: Global, store: &mut S, name: &str) -> Result<Toke
     ensures files { S.files store.new ≡ S.files store.old }
     ensures later { S.faults store.old ≤ S.faults store.new }
     ensures cause { IfErr result (λ why. HasCause why (S.faults store.old) (S.faults store.new)) }
-    ensures walk { (lexed : Text → Result (List Token) LexFault) → (unescaped : List ℕ → List ℕ) → (files : Files)
-        → S.files store.old ≡ Some files → IsLexing lexed → IsUnescaping unescaped
+
+    // Where the files are told, the answer is that of the walk over them, by the tokens of texts and
+    // by what the inside of a text stands for.
+    ensures walk { (lexed : Text → Result (List Token) LexFault) → (unescaped : List ℕ → List ℕ)
+        → (files : Files) → S.files store.old ≡ Some files → IsLexing lexed → IsUnescaping unescaped
         → FitsWalk (walk_of lexed unescaped files name.now) result (S.trace store.old) (S.trace store.new) }
 {
     let mut gathering = Gathering::new(alloc);

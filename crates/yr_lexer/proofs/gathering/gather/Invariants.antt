@@ -15,7 +15,7 @@ invariant-open g l = record {
   files : g.S.Store.files l.store ≡ g.S.Store.files l.fn.store;
   later : g.S.Store.faults l.fn.store ≤ g.S.Store.faults l.store;
   follows : (lexed : Text → Result (List Token) LexFault) (unescaped : List ℕ → List ℕ) (files : Files) → g.S.Store.files l.fn.store ≡ Some files → IsLexing lexed → IsUnescaping unescaped
-    → Follows lexed unescaped files l.fn.name l.gathering (g.S.Store.trace l.fn.store) (g.S.Store.trace l.store);
+      → Follows lexed unescaped files l.fn.name l.gathering (g.S.Store.trace l.fn.store) (g.S.Store.trace l.store);
 }
 
 abbrev pub decreases-open : goal.decreases-open

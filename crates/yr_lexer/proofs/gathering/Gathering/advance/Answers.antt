@@ -29,10 +29,9 @@ returns-in_default-clause-whole g c =
 
 pub returns-in_default-clause-walk : goal.returns-in_default-clause-walk
 returns-in_default-clause-walk g c = λ lexed unescaped files told is meaning.
-    let text = text-is c.args.self.now c.args.frame c.requires.lies c.index.result.now c.as_slice-text.result.now c.index.ensures c.as_slice-text.ensures.value in
-    (
+    let text = text-is c.args.self.now c.args.frame c.requires.lies c.index.result.now c.as_slice-text.result.now c.index.ensures c.as_slice-text.ensures.value in (
       walk-ended lexed unescaped files c.args.self.now c.args.frame c.gather_plain.new.self c.gather_plain.new.tokens.items c.as_slice-text.result.now c.in_ok-include.field-0 text
-      (c.in_ok-include.ensures.walk lexed unescaped files) c.in_default.is,
+          (c.in_ok-include.ensures.walk lexed unescaped files) c.in_default.is,
       λ start notes. notes,
     )
 
@@ -62,8 +61,8 @@ returns-in_err-name-clause-walk g c = λ lexed unescaped files told is meaning.
     let P : Option Include → Type 0 = λ o. IfSome o (λ i. (i.file ≡ c.args.frame.file) × LiesIn c.as_slice-text.result.now i.path × (is_text_kind i.path.kind ≡ true)) in
     let h = subst P c.in-Some.is c.in_ok-include.ensures.include in
     let e = walk-included lexed unescaped files c.args.self.now c.args.frame c.gather_plain.new.self c.gather_plain.new.tokens.items c.as_slice-text.result.now c.in_ok-include.field-0 text
-        (c.in_ok-include.ensures.walk lexed unescaped files) c.in-Some.include c.in-Some.is h.0 c.in_ok-include.ensures.same.0
-        (record { files = c.args.self.now.files; tokens = c.gather_plain.new.tokens; frames = c.push.new.self; room = c.args.self.now.room }) refl refl c.in_ok-push.ensures.items in
+    (c.in_ok-include.ensures.walk lexed unescaped files) c.in-Some.include c.in-Some.is h.0 c.in_ok-include.ensures.same.0
+    (record { files = c.args.self.now.files; tokens = c.gather_plain.new.tokens; frames = c.push.new.self; room = c.args.self.now.room }) refl refl c.in_ok-push.ensures.items in
     rw (p.1, p.2)
     (subst (λ (k : Walk). Refuses k (names_of (files_in c.args.self.now)) c.in_err-name.field-0.0 (g.S.Store.trace c.args.store.now) (g.S.Store.trace c.args.store.now)) (sym e)
     (c.in_err-name.ensures.walk lexed unescaped files meaning (g.S.Store.trace c.args.store.now)))
@@ -81,8 +80,8 @@ returns-clause-walk g c = λ lexed unescaped files told is meaning.
     let P : Option Include → Type 0 = λ o. IfSome o (λ i. (i.file ≡ c.args.frame.file) × LiesIn c.as_slice-text.result.now i.path × (is_text_kind i.path.kind ≡ true)) in
     let h = subst P c.in-Some.is c.in_ok-include.ensures.include in
     let e = walk-included lexed unescaped files c.args.self.now c.args.frame c.gather_plain.new.self c.gather_plain.new.tokens.items c.as_slice-text.result.now c.in_ok-include.field-0 text
-        (c.in_ok-include.ensures.walk lexed unescaped files) c.in-Some.include c.in-Some.is h.0 c.in_ok-include.ensures.same.0
-        (record { files = c.args.self.now.files; tokens = c.gather_plain.new.tokens; frames = c.push.new.self; room = c.args.self.now.room }) refl refl c.in_ok-push.ensures.items in
+    (c.in_ok-include.ensures.walk lexed unescaped files) c.in-Some.include c.in-Some.is h.0 c.in_ok-include.ensures.same.0
+    (record { files = c.args.self.now.files; tokens = c.gather_plain.new.tokens; frames = c.push.new.self; room = c.args.self.now.room }) refl refl c.in_ok-push.ensures.items in
     subst (λ (k : Walk). Leads k (names_of (files_in c.args.self.now)) c.enter.result (walk_from lexed unescaped files c.enter.new.self) (names_of (files_in c.enter.new.self))
     (g.S.Store.trace c.args.store.now) (g.S.Store.trace c.enter.new.store)) (sym (e ∙ c.in_ok-name.ensures.walk lexed unescaped files meaning))
     (c.enter.ensures.walk lexed unescaped files told is)
