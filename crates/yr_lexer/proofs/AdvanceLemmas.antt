@@ -1,16 +1,15 @@
 -- The steps of gathering in the innermost open file.
-use Rattle.std.proofs.Common.{◌≡◌, ℕ, zero, suc, ◌+◌, ◌-◌, ◌≤◌, ◌<◌, ◌^◌, Bool, true, false, ◌||◌, List, [], ◌∷◌, ◌++◌, length, drop, get_or, map, Option, Some, None, Result, Ok, Err, string_bytes, refl, sym, ap, ◌∙◌, subst, append_assoc, append-nil, length-append, arith}
-use Rattle.std.specs.Prelude.{not, nat_lt, All, IfSome, OnSome, MatchOption, MatchResult, sum_by}
-use Rattle.std.specs.Str.{is_utf8}
+use Rattle.std.proofs.Common.{◌≡◌, ℕ, ◌+◌, ◌≤◌, ◌<◌, Bool, true, false, List, [], ◌∷◌, ◌++◌, length, get_or, map, Option, Some, None, Result, Ok, Err, string_bytes, refl, sym, ap, ◌∙◌, subst, append-nil, length-append, arith}
+use Rattle.std.specs.Prelude.{All, sum_by}
 use Rattle.std.specs.declared.alloc.Global.{Global}
 use Rattle.std.specs.declared.string.String.{String}
 use Rattle.std.proofs.lemmas.Bool.{lt-ltb, le-ltb}
-use Rattle.std.proofs.lemmas.List.{map-append, length-map}
+use Rattle.std.proofs.lemmas.List.{length-map}
 use Rattle.std.proofs.lemmas.List.Sums.{sum_by-append}
 use Rattle.std.proofs.lemmas.List.Elements.{All-nil, All-cons, All-head, All-tail, All-append}
 use Rattle.yr_base.specs.Store.{Files}
 use Rattle.yr_base.specs.Trace.{Entry}
-use Rattle.yr_base.specs.Notes.{NotesAll, NotesSome, NotesFailure}
+use Rattle.yr_base.specs.Notes.{NotesAll, NotesSome}
 use Rattle.yr_base.proofs.NoteLemmas.{NotesAll-none, NotesSome-of}
 use Rattle.yr_lexer.specs.declared.token.Token.{Token}
 use Rattle.yr_lexer.specs.declared.source.FileToken.{FileToken}
@@ -22,11 +21,11 @@ use Rattle.yr_lexer.specs.declared.frame.Frame.{Frame}
 use Rattle.yr_lexer.specs.declared.frame.Include.{Include}
 use Rattle.yr_lexer.specs.declared.gathering.Gathering.{Gathering}
 use Rattle.yr_lexer.specs.Gaps.{Text}
-use Rattle.yr_lexer.specs.Sources.{File, file_of, text_at, LiesIn, LiesInFile, Gathered}
-use Rattle.yr_lexer.specs.Includes.{Walk, Walked, WalkFault, Lex, Path, Cycle, Depth, TextTooLong, depth_limit, room_after, joined_name, stops, gathers, with_tokens, followed_by, is_name_among, is_empty, inside_of, include_walk, token_walk, walk_down, walk_of}
+use Rattle.yr_lexer.specs.Sources.{File, file_of, text_at, LiesInFile}
+use Rattle.yr_lexer.specs.Includes.{Walk, Walked, Path, Cycle, Depth, room_after, joined_name, stops, gathers, with_tokens, followed_by, is_name_among, inside_of, include_walk, token_walk, walk_down, walk_of}
 use Rattle.yr_lexer.specs.Gathering.{FitsFault, FitsWalk}
 use Rattle.yr_lexer.specs.OpenFiles.{OpenFile, open_file, open_files, open_names, levels_below, goes_on, resume, entering, including, walked, names_of, name_at, left_of, files_in, open_in, walk_from, walk_with, walk_into, walk_at, Refuses, Leads, LiesOpen, IsGathering, work_left, FitsPath}
-use Rattle.yr_lexer.proofs.WalkLemmas.{with_tokens-nil, followed_by-tokens, followed_by-more, followed_by-end, Extends, extends-tokens}
+use Rattle.yr_lexer.proofs.WalkLemmas.{with_tokens-nil, followed_by-tokens, followed_by-more, followed_by-end, Extends}
 use Rattle.yr_lexer.proofs.FrameLemmas.{open_files-push, open_files-length}
 use Rattle.yr_lexer.proofs.PathLemmas.{name-here, text-here}
 use Rattle.yr_lexer.proofs.StateLemmas.{refused-at, no-memory-at, including-grows, including-path, including-cycle, including-depth, including-enters, resume-grows}

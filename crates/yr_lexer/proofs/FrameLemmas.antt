@@ -1,13 +1,13 @@
 -- The tokens of one file, and the open files where more files are read.
-use Rattle.std.proofs.Common.{◌≡◌, ℕ, zero, suc, ◌+◌, ◌-◌, ◌≤◌, ◌<◌, Bool, true, false, cond, ◌&&◌, ◌||◌, List, [], ◌∷◌, ◌++◌, length, take, drop, get_or, map, Option, Some, None, Result, Ok, Err, refl, sym, ap, ◌∙◌, subst, length-append, append_assoc, append-nil, take-append-drop, arith}
-use Rattle.std.specs.Prelude.{slice_get, All, slice_range}
+use Rattle.std.proofs.Common.{◌≡◌, ℕ, zero, suc, ◌+◌, ◌≤◌, ◌<◌, Bool, true, false, ◌&&◌, ◌||◌, List, [], ◌∷◌, ◌++◌, length, take, drop, get_or, map, Option, Some, None, Result, refl, sym, ap, ◌∙◌, subst, length-append, append-nil, take-append-drop, arith}
+use Rattle.std.specs.Prelude.{slice_get, All}
 use Rattle.std.specs.Str.{bytes_eq}
 use Rattle.std.specs.List.{list_any}
 use Rattle.std.proofs.Math.ListN.{drop_of_length-le}
 use Rattle.std.proofs.lemmas.List.{length-map}
 use Rattle.std.proofs.lemmas.List.Folds.{list_any_at, list_any_more}
 use Rattle.std.proofs.lemmas.Option.{none-some}
-use Rattle.std.proofs.lemmas.List.Elements.{All-nil, All-cons, All-head, All-tail, All-append}
+use Rattle.std.proofs.lemmas.List.Elements.{All-head, All-tail}
 use Rattle.yr_base.specs.Store.{Files}
 use Rattle.yr_lexer.specs.declared.token.Token.{Token}
 use Rattle.yr_lexer.specs.declared.source.FileToken.{FileToken}
@@ -17,8 +17,8 @@ use Rattle.yr_lexer.specs.declared.frame.Frame.{Frame}
 use Rattle.yr_lexer.specs.declared.frame.Include.{Include}
 use Rattle.yr_lexer.specs.Gaps.{Text}
 use Rattle.yr_lexer.specs.Sources.{File, file_of, text_at, LiesIn, LiesInFile}
-use Rattle.yr_lexer.specs.Includes.{Walk, Walked, gathers, with_tokens, followed_by, is_name_among, is_include, is_text_kind, inside_of, token_walk}
-use Rattle.yr_lexer.specs.OpenFiles.{name_at, OpenFile, open_file, open_files, open_names, left_of, front_include, goes_on, LiesOpen}
+use Rattle.yr_lexer.specs.Includes.{Walk, Walked, with_tokens, followed_by, is_name_among, is_include, is_text_kind, inside_of, token_walk}
+use Rattle.yr_lexer.specs.OpenFiles.{name_at, OpenFile, open_file, open_files, open_names, front_include, goes_on, LiesOpen}
 use Rattle.yr_lexer.proofs.WalkLemmas.{with_tokens-more}
 
 abbrev content : Include → Option Include → Include

@@ -27,3 +27,4 @@ pub mod StateLemmas
 pub mod StepLemmas
 pub mod PathLemmas
 pub mod AdvanceLemmas
+pub mod TotalLemmas

@@ -1,10 +1,8 @@
 -- The path of an include, and the files and texts that code reads.
-use Rattle.std.proofs.Common.{◌≡◌, ◌≢◌, ℕ, zero, suc, ◌+◌, ◌-◌, ◌≤◌, ◌<◌, Bool, true, false, ◌||◌, List, [], ◌∷◌, ◌++◌, length, take, drop, get_or, map, Option, Some, None, Result, Ok, Err, string_bytes, refl, sym, ap, ◌∙◌, subst, append_assoc, length-append, take-append-drop, arith}
-use Rattle.std.specs.Prelude.{not, All, slice_range, slice_get}
+use Rattle.std.proofs.Common.{◌≡◌, ◌≢◌, ℕ, ◌+◌, ◌-◌, ◌≤◌, ◌<◌, Bool, true, false, ◌||◌, List, [], ◌∷◌, ◌++◌, length, take, drop, get_or, map, Some, Result, Ok, Err, string_bytes, refl, sym, ap, ◌∙◌, subst, append_assoc, length-append, take-append-drop, arith}
+use Rattle.std.specs.Prelude.{not, slice_range, slice_get}
 use Rattle.std.specs.Option.{option_map}
 use Rattle.std.specs.Str.{is_utf8, IsUtf8, bytes_eq}
-use Rattle.std.specs.declared.alloc.Global.{Global}
-use Rattle.std.specs.declared.string.String.{String}
 use Rattle.std.proofs.lemmas.Str.{IsUtf8-from_is_utf8, is_utf8-from_IsUtf8}
 use Rattle.std.proofs.lemmas.List.{drop-drop, length-drop, length-take-le}
 use Rattle.std.proofs.lemmas.Bool.{false≢true}
@@ -19,7 +17,7 @@ use Rattle.yr_lexer.specs.Gaps.{Text}
 use Rattle.yr_lexer.specs.Texts.{Unescapes}
 use Rattle.yr_lexer.specs.Forms.{HasGoodEscapes}
 use Rattle.yr_lexer.specs.Tokens.{Lexes, ExplainsLex}
-use Rattle.yr_lexer.specs.Sources.{File, file_of, text_at, LiesIn}
+use Rattle.yr_lexer.specs.Sources.{file_of, text_at, LiesIn}
 use Rattle.yr_lexer.specs.Includes.{is_empty, is_text_kind, inside_of, IsLexing, IsUnescaping}
 use Rattle.yr_lexer.specs.OpenFiles.{name_at}
 use Rattle.yr_lexer.proofs.Basics.{take-front}

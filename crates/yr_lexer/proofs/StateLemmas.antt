@@ -1,27 +1,20 @@
 -- Walks from where some files are open.
-use Rattle.std.proofs.Common.{◌≡◌, ℕ, zero, suc, ◌+◌, ◌-◌, ◌≤◌, ◌<◌, Bool, true, false, cond, ◌&&◌, ◌||◌, List, [], ◌∷◌, ◌++◌, length, drop, get_or, map, Option, Some, None, Result, Ok, Err, string_bytes, refl, sym, ap, ◌∙◌, subst, append_assoc, append-nil, arith}
-use Rattle.std.specs.Prelude.{not, nat_lt, All}
+use Rattle.std.proofs.Common.{◌≡◌, ℕ, suc, ◌-◌, ◌≤◌, ◌<◌, true, false, ◌||◌, List, [], ◌∷◌, ◌++◌, length, Option, Some, Result, Ok, Err, refl, sym, ap, ◌∙◌, subst, arith}
+use Rattle.std.specs.Prelude.{not, nat_lt}
 use Rattle.std.specs.Str.{is_utf8}
 use Rattle.std.proofs.lemmas.Bool.{lt-ltb, le-ltb}
 use Rattle.std.proofs.lemmas.List.{map-append}
 use Rattle.yr_base.specs.Store.{Files}
 use Rattle.yr_base.specs.Trace.{Entry}
-use Rattle.yr_base.specs.Notes.{NotesAll, NotesSome, NotesFailure}
+use Rattle.yr_base.specs.Notes.{NotesAll, NotesSome}
 use Rattle.yr_base.proofs.NoteLemmas.{NotesSome-of}
 use Rattle.yr_lexer.specs.declared.token.Token.{Token}
-use Rattle.yr_lexer.specs.declared.source.FileToken.{FileToken}
 use Rattle.yr_lexer.specs.declared.fault.LexFault.{LexFault}
-use Rattle.yr_lexer.specs.declared.fault.GatherFault.{GatherFault}
-use Rattle.yr_lexer.specs.declared.fault.GatherFault.TheVariants as fault
-use Rattle.yr_lexer.specs.declared.frame.Frame.{Frame}
-use Rattle.yr_lexer.specs.declared.frame.Include.{Include}
-use Rattle.yr_lexer.specs.declared.gathering.Gathering.{Gathering}
 use Rattle.yr_lexer.specs.Gaps.{Text}
-use Rattle.yr_lexer.specs.Sources.{File, file_of, text_at}
-use Rattle.yr_lexer.specs.Includes.{Walk, Walked, WalkFault, Lex, Read, Path, Cycle, Depth, TextTooLong, depth_limit, room_after, joined_name, with_file, with_read, stops, gathers, with_tokens, followed_by, is_name_among, is_empty, inside_of, include_walk, token_walk, text_walk, name_walk, walk_down, walk_of}
-use Rattle.yr_lexer.specs.Gathering.{FitsFault}
-use Rattle.yr_lexer.specs.OpenFiles.{OpenFile, open_file, open_files, open_names, levels_below, goes_on, resume, entering, including, walked, names_of, name_at, left_of, files_in, open_in, walk_from, walk_with, walk_into, walk_at, Refuses}
-use Rattle.yr_lexer.proofs.WalkLemmas.{with_tokens-nil, followed_by-tokens, followed_by-more, followed_by-end, Extends, Grows, extends-same, extends-tokens, extends-followed, token_walk-grows, include_walk-grows, walk_down-grows, walk_down-more, name_walk-reads, name_walk-missing, name_walk-long, name_walk-fits, text_walk-lexed, text_walk-refused}
+use Rattle.yr_lexer.specs.Sources.{File}
+use Rattle.yr_lexer.specs.Includes.{Walk, Walked, WalkFault, Lex, Path, Cycle, Depth, TextTooLong, depth_limit, room_after, joined_name, with_file, with_read, stops, gathers, followed_by, is_name_among, is_empty, include_walk, token_walk, text_walk, name_walk, walk_down}
+use Rattle.yr_lexer.specs.OpenFiles.{OpenFile, open_names, levels_below, resume, entering, including, walked}
+use Rattle.yr_lexer.proofs.WalkLemmas.{Extends, Grows, extends-same, extends-followed, token_walk-grows, include_walk-grows, walk_down-grows, walk_down-more, name_walk-reads, name_walk-long, name_walk-fits, text_walk-lexed, text_walk-refused}
 
 pub walked-more : (files : List File) (f : File) → with_file f (walked files) ≡ walked (files ++ f ∷ [])
 walked-more files f = ap (λ (r : List (List ℕ)). record { files = files ++ f ∷ []; reads = r }) (sym (map-append (λ (g : File). g.name) files (f ∷ [])))

@@ -1,7 +1,6 @@
 -- The steps of gathering, from one state to the next.
-use Rattle.std.proofs.Common.{◌≡◌, ℕ, zero, suc, ◌+◌, ◌-◌, ◌≤◌, ◌<◌, ◌^◌, Bool, true, false, ◌||◌, List, [], ◌∷◌, ◌++◌, length, drop, map, Option, Some, None, Result, Ok, Err, string_bytes, refl, sym, ap, ◌∙◌, subst, append_assoc, append-nil, length-append, arith}
-use Rattle.std.specs.Prelude.{not, nat_lt, All, OnOk, IfErr, MatchResult, sum_by}
-use Rattle.std.specs.Str.{is_utf8}
+use Rattle.std.proofs.Common.{◌≡◌, ℕ, ◌+◌, ◌-◌, ◌≤◌, ◌<◌, List, [], ◌∷◌, ◌++◌, length, drop, map, Option, Some, Result, Ok, Err, string_bytes, refl, sym, ap, ◌∙◌, subst, append_assoc, length-append, arith}
+use Rattle.std.specs.Prelude.{All, OnOk, MatchResult, sum_by}
 use Rattle.std.specs.declared.alloc.Global.{Global}
 use Rattle.std.specs.declared.string.String.{String}
 use Rattle.std.proofs.lemmas.List.{map-append, length-map}
@@ -10,7 +9,7 @@ use Rattle.std.proofs.lemmas.List.Elements.{All-nil, All-cons, All-append}
 use Rattle.yr_base.specs.Store.{Files}
 use Rattle.yr_base.specs.Told.{told_more, told_more-nil}
 use Rattle.yr_base.specs.Trace.{Entry}
-use Rattle.yr_base.specs.Notes.{read_noted, failure_noted, NotesAll, NotesSome, NotesFailure}
+use Rattle.yr_base.specs.Notes.{read_noted, failure_noted}
 use Rattle.yr_base.proofs.NoteLemmas.{NotesAll-then, NotesFailure-then}
 use Rattle.yr_lexer.specs.declared.token.Token.{Token}
 use Rattle.yr_lexer.specs.declared.source.FileToken.{FileToken}
@@ -19,15 +18,14 @@ use Rattle.yr_lexer.specs.declared.fault.LexFault.{LexFault}
 use Rattle.yr_lexer.specs.declared.fault.GatherFault.{GatherFault}
 use Rattle.yr_lexer.specs.declared.fault.GatherFault.TheVariants as fault
 use Rattle.yr_lexer.specs.declared.frame.Frame.{Frame}
-use Rattle.yr_lexer.specs.declared.frame.Include.{Include}
 use Rattle.yr_lexer.specs.declared.gathering.Gathering.{Gathering}
 use Rattle.yr_lexer.specs.Gaps.{Text}
 use Rattle.yr_lexer.specs.Sources.{File, file_of, text_at, LiesIn, LiesInFile}
-use Rattle.yr_lexer.specs.Includes.{Walk, Walked, WalkFault, Lex, Path, Cycle, Depth, TextTooLong, room_after, joined_name, with_file, with_read, stops, gathers, with_tokens, followed_by, is_name_among, is_empty, inside_of, include_walk, token_walk}
-use Rattle.yr_lexer.specs.OpenFiles.{OpenFile, open_file, open_files, open_names, levels_below, goes_on, resume, entering, including, walked, names_of, name_at, left_of, files_in, open_in, walk_from, walk_with, walk_into, walk_at, Refuses, Leads, LiesOpen, IsGathering, work_left, FitsPath, FitsLex}
-use Rattle.yr_lexer.proofs.WalkLemmas.{with_tokens-nil, followed_by-tokens, followed_by-more, Extends, extends-tokens}
+use Rattle.yr_lexer.specs.Includes.{Walk, Lex, TextTooLong, with_file, with_read, stops, with_tokens}
+use Rattle.yr_lexer.specs.OpenFiles.{OpenFile, open_file, open_files, resume, walked, names_of, name_at, left_of, files_in, open_in, walk_from, walk_into, Refuses, Leads, LiesOpen, IsGathering, work_left, FitsLex}
+use Rattle.yr_lexer.proofs.WalkLemmas.{Extends}
 use Rattle.yr_lexer.proofs.FrameLemmas.{text_at-last, name_at-last, LiesInFile-grown, LiesOpen-grown, All-more, open_files-grown, open_files-push, open_files-length}
-use Rattle.yr_lexer.proofs.StateLemmas.{walked-more, refused-at, no-memory-at, entering-grows, entering-reads, entering-long, entering-refused, entering-opens, including-grows, including-path, including-cycle, including-depth, including-enters, resume-grows}
+use Rattle.yr_lexer.proofs.StateLemmas.{walked-more, refused-at, no-memory-at, entering-grows, entering-reads, entering-long, entering-refused, entering-opens}
 
 -- A file was added to a state.
 pub record Adds (s t : Gathering) (file : SourceFile) (frame : Frame) : Type 0 where

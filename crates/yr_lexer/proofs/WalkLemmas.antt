@@ -1,5 +1,5 @@
 -- Walks one after another, and what every walk has read.
-use Rattle.std.proofs.Common.{◌≡◌, ℕ, zero, suc, ◌+◌, ◌-◌, ◌≤◌, ◌<◌, Bool, true, false, cond, ◌&&◌, ◌||◌, List, [], ◌∷◌, ◌++◌, length, map, Option, Some, None, Result, Ok, Err, refl, sym, ap, ◌∙◌, subst, append_assoc, append-nil, arith}
+use Rattle.std.proofs.Common.{◌≡◌, ℕ, zero, suc, Bool, true, false, cond, ◌&&◌, ◌||◌, List, [], ◌∷◌, ◌++◌, length, Option, Some, None, Result, Ok, Err, refl, sym, ap, ◌∙◌, append_assoc, append-nil}
 use Rattle.std.specs.Prelude.{not, nat_lt}
 use Rattle.std.specs.Str.{is_utf8}
 use Rattle.yr_base.specs.Store.{Files}
@@ -7,8 +7,7 @@ use Rattle.yr_lexer.specs.declared.token.Token.{Token}
 use Rattle.yr_lexer.specs.declared.source.FileToken.{FileToken}
 use Rattle.yr_lexer.specs.declared.fault.LexFault.{LexFault}
 use Rattle.yr_lexer.specs.Gaps.{Text}
-use Rattle.yr_lexer.specs.Sources.{File}
-use Rattle.yr_lexer.specs.Includes.{Walk, Walked, WalkFault, Lex, Read, Path, Cycle, Depth, TextTooLong, depth_limit, room_after, joined_name, with_file, with_read, stops, gathers, in_front, with_tokens, followed_by, is_name_among, is_empty, is_include, is_text_kind, inside_of, include_walk, token_walk, text_walk, name_walk, walk_down}
+use Rattle.yr_lexer.specs.Includes.{Walk, Walked, WalkFault, Lex, Read, Path, Cycle, Depth, TextTooLong, depth_limit, room_after, joined_name, with_file, with_read, stops, gathers, with_tokens, followed_by, is_name_among, is_empty, is_include, is_text_kind, inside_of, include_walk, token_walk, text_walk, name_walk, walk_down}
 
 pub with_tokens-nil : (k : Walk) → with_tokens [] k ≡ k
 with_tokens-nil k = by_answer k.answer k.after

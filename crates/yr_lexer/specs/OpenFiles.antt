@@ -1,5 +1,5 @@
 -- What is left of a walk where some files are still being gathered.
-use Rattle.std.specs.Prelude.{◌≡◌, ℕ, ◌+◌, ◌-◌, ◌<◌, ◌≤◌, ◌&&◌, ◌||◌, not, List, [], ◌∷◌, ◌++◌, length, map, drop, sum_by, slice_get, All, Bool, true, false, Option, Some, None, Result, Ok, Err, string_bytes, if◌then◌else◌}
+use Rattle.std.specs.Prelude.{◌≡◌, ℕ, ◌+◌, ◌-◌, ◌<◌, ◌≤◌, ◌&&◌, ◌||◌, not, List, [], ◌∷◌, ◌++◌, length, map, drop, sum_by, slice_get, All, true, false, Option, Some, None, Result, Ok, Err, string_bytes, if◌then◌else◌}
 use Rattle.std.specs.Str.{is_utf8}
 use Rattle.std.specs.declared.alloc.Global.{Global}
 use Rattle.std.specs.declared.string.String.{String}
@@ -7,8 +7,6 @@ use Rattle.yr_base.specs.Store.{Files}
 use Rattle.yr_base.specs.Trace.{Entry}
 use Rattle.yr_base.specs.Notes.{NotesAll}
 use Rattle.yr_lexer.specs.declared.token.Token.{Token}
-use Rattle.yr_lexer.specs.declared.source.FileToken.{FileToken}
-use Rattle.yr_lexer.specs.declared.source.SourceFile.{SourceFile}
 use Rattle.yr_lexer.specs.declared.fault.LexFault.{LexFault}
 use Rattle.yr_lexer.specs.declared.fault.GatherFault.{GatherFault}
 use Rattle.yr_lexer.specs.declared.fault.GatherFault.TheVariants as fault
@@ -17,7 +15,7 @@ use Rattle.yr_lexer.specs.declared.frame.Include.{Include}
 use Rattle.yr_lexer.specs.declared.gathering.Gathering.{Gathering}
 use Rattle.yr_lexer.specs.Gaps.{Text}
 use Rattle.yr_lexer.specs.Sources.{File, file_of, text_at, LiesIn, LiesInFile}
-use Rattle.yr_lexer.specs.Includes.{Walked, Walk, WalkFault, depth_limit, room_after, gathers, with_tokens, followed_by, is_empty, is_include, is_text_kind, inside_of, include_walk, token_walk, walk_down}
+use Rattle.yr_lexer.specs.Includes.{Walked, Walk, depth_limit, room_after, gathers, with_tokens, followed_by, is_empty, is_include, is_text_kind, inside_of, include_walk, token_walk, walk_down}
 use Rattle.yr_lexer.specs.Gathering.{FitsFault}
 
 -- the name of the file of a number, empty past the last

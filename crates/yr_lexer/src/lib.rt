@@ -22,7 +22,7 @@ mod tokens;
 
 pub use fault::{GatherFault, LexFault};
 pub use gathering::gather;
-pub use laws::{one_answer, one_meaning};
+pub use laws::{each_text_has_a_meaning, each_text_has_an_answer, one_answer, one_meaning};
 pub use lexing::lex;
 pub use source::{FileToken, SourceFile};
 pub use text::unescape;

@@ -1,4 +1,4 @@
-use Rattle.std.proofs.Common.{◌≡◌, ℕ, List, [], map, string_bytes, Ok, refl, ap, ◌∙◌, subst, arith, length}
+use Rattle.std.proofs.Common.{ℕ, List, map, string_bytes, refl, ap, ◌∙◌, subst, arith, length}
 use Rattle.std.proofs.lemmas.Result.{err_from_is_err_and}
 use Rattle.yr_lexer.specs.declared.source.SourceFile.{SourceFile}
 use Rattle.yr_lexer.specs.declared.gathering.Gathering.{Gathering}

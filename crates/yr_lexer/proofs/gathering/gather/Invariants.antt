@@ -1,4 +1,4 @@
-use Rattle.std.proofs.Common.{◌≡◌, ℕ, ◌+◌, ◌≤◌, List, length, Option, Some, Result}
+use Rattle.std.proofs.Common.{◌≡◌, ℕ, ◌+◌, ◌≤◌, List, length, Some, Result}
 use Rattle.yr_base.specs.Store.{Files}
 use Rattle.yr_lexer.specs.declared.token.Token.{Token}
 use Rattle.yr_lexer.specs.declared.fault.LexFault.{LexFault}

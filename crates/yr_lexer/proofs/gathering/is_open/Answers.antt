@@ -1,4 +1,4 @@
-use Rattle.std.proofs.Common.{rules, ◌≡◌, Bool, true, false, sym, ap, ◌∙◌, arith}
+use Rattle.std.proofs.Common.{◌∙◌}
 use Rattle.yr_lexer.proofs.FrameLemmas.{open-there, found-open, none-more, none-open}
 use Rattle.yr_lexer.proofs.PathLemmas.{name-tested}
 use Rattle.yr_lexer.proofs.gathering.is_open.Goals as goal

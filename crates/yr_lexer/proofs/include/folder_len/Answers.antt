@@ -1,6 +1,5 @@
-use Rattle.std.proofs.Common.{rules, ◌≡◌, ◌≢◌, ◌<◌, ◌≤◌, ◌-◌, slice_index, length, take, IsCharBoundary, sym, subst, arith}
+use Rattle.std.proofs.Common.{rules, ◌≡◌, IsCharBoundary, sym, subst, arith}
 use Rattle.std.proofs.lemmas.Str.{IsCharBoundary-start}
-use Rattle.yr_lexer.specs.Includes.{folder_of}
 use Rattle.yr_lexer.proofs.FolderLemmas.{folder-shorter, folder-ends, folder-boundary}
 use Rattle.yr_lexer.proofs.include.folder_len.Goals as goal
 

@@ -1,4 +1,4 @@
-use Rattle.std.proofs.Common.{rules, ◌≡◌, List, Some, None, ◌+◌, refl, sym, ap, ◌∙◌, arith}
+use Rattle.std.proofs.Common.{rules, ◌≡◌, List, None, ◌+◌, refl, sym, ap, ◌∙◌}
 use Rattle.yr_lexer.specs.declared.token.Token.{Token}
 use Rattle.yr_lexer.specs.OpenFiles.{front_include, left_of}
 use Rattle.yr_lexer.proofs.PassLemmas.{passes-one, passes-end, passes-include, passes-lies, left-none}

@@ -1,14 +1,11 @@
-use Rattle.std.proofs.Common.{◌≡◌, ℕ, List, true, Option, Some, refl, sym, ap, ◌∙◌, subst}
+use Rattle.std.proofs.Common.{◌≡◌, ℕ, List, true, Option, refl, sym, ◌∙◌, subst}
 use Rattle.std.specs.Prelude.{All, IfSome}
 use Rattle.std.proofs.lemmas.Result.{err_from_is_err_and}
-use Rattle.yr_base.specs.Trace.{Entry}
-use Rattle.yr_lexer.specs.declared.token.Token.{Token}
 use Rattle.yr_lexer.specs.declared.frame.Include.{Include}
-use Rattle.yr_lexer.specs.declared.gathering.Gathering.{Gathering}
 use Rattle.yr_lexer.specs.Sources.{text_at, LiesIn}
 use Rattle.yr_lexer.specs.Includes.{Walk, is_text_kind}
 use Rattle.yr_lexer.specs.OpenFiles.{Leads, Refuses, names_of, files_in, walk_from}
-use Rattle.yr_lexer.proofs.AdvanceLemmas.{text-is, there-here, with-no-memory, kept-gathering, opened-gathering, still-open, walk-ended, walk-included}
+use Rattle.yr_lexer.proofs.AdvanceLemmas.{text-is, with-no-memory, kept-gathering, opened-gathering, still-open, walk-ended, walk-included}
 use Rattle.yr_lexer.proofs.gathering.Gathering.advance.Goals as goal
 
 pub gather_plain-requires-clause-lies : goal.gather_plain-requires-clause-lies

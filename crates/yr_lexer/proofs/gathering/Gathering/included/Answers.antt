@@ -1,4 +1,4 @@
-use Rattle.std.proofs.Common.{rules, sym, ◌∙◌, arith}
+use Rattle.std.proofs.Common.{rules, ◌∙◌}
 use Rattle.std.proofs.lemmas.Result.{err_from_is_err_and}
 use Rattle.yr_lexer.proofs.AdvanceLemmas.{at-path, at-no-memory, at-cycle, at-depth, at-enters, among-here}
 use Rattle.yr_lexer.proofs.gathering.Gathering.included.Goals as goal

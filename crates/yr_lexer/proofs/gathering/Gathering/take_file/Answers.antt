@@ -1,7 +1,6 @@
-use Rattle.std.proofs.Common.{ℕ, List, length, refl, ap}
+use Rattle.std.proofs.Common.{length, refl, ap}
 use Rattle.std.proofs.lemmas.Result.{err_from_is_err_and}
 use Rattle.yr_lexer.specs.declared.frame.Frame.{Frame}
-use Rattle.yr_lexer.specs.declared.gathering.Gathering.{Gathering}
 use Rattle.yr_lexer.proofs.StepLemmas.{Adds, added-gathering, added-walk, into-lex, into-no-memory}
 use Rattle.yr_lexer.proofs.gathering.Gathering.take_file.Goals as goal
 
