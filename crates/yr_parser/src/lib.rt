@@ -25,6 +25,8 @@ mod sign;
 mod spelling;
 mod strings;
 mod test;
+#[cfg(test)]
+mod tests;
 
 pub use fault::ParseFault;
 pub use laws::{one_answer, small_conditions, unescaped_texts};
