@@ -45,7 +45,8 @@ impl Tokens {
 
     /// The gathered tokens.
     pub fn tokens(&self) -> &[FileToken]
-        ensures { result.now ≡ self.now.tokens }
+        ensures value { result.now ≡ self.now.tokens }
+        ensures lies { All (LiesInFile self.now.files) result.now }
     {
         &self.tokens
     }
@@ -56,15 +57,24 @@ impl Tokens {
         ensures text { result.now ≡ sources.text_of self.now k }
         ensures spelled { (t : FileToken) → slice_get self.now.tokens k ≡ Some t → IsSpelled result.now t.token.kind }
     {
+        self.bytes(k as usize)
+    }
+
+    /// The same at a number of any size.
+    pub fn spelling(&self, k: usize) -> &[u8]
+        requires { k < length self.now.tokens }
+        ensures text { result.now ≡ sources.text_of self.now k }
+        ensures spelled { (t : FileToken) → slice_get self.now.tokens k ≡ Some t → IsSpelled result.now t.token.kind }
+    {
         self.bytes(k)
     }
 
-    fn bytes(&self, k: u32) -> &[u8]
+    fn bytes(&self, k: usize) -> &[u8]
         requires { k < length self.now.tokens }
         ensures text { result.now ≡ sources.text_of self.now k }
         ensures lies { All (LiesInFile self.now.files) self.now.tokens }
     {
-        let token = self.tokens[k as usize];
+        let token = self.tokens[k];
         let text = self.files[token.file as usize].text.as_slice();
         &text[token.token.from as usize..token.token.to as usize]
     }

@@ -1,3 +1,4 @@
 pub mod Condition
-pub mod Height
 pub mod Declaration
+pub mod Forms
+pub mod Height

@@ -1,0 +1,17 @@
+pub mod Answers
+pub mod Conditions
+pub mod Declarations
+pub mod Depth
+pub mod Examples
+pub mod Good
+pub mod Input
+pub mod Levels
+pub mod Lexemes
+pub mod Many
+pub mod Nests
+pub mod Reading
+pub mod Refusals
+pub mod Ruling
+pub mod Shallow
+pub mod Spelling
+pub mod Terminals
