@@ -1,3 +1,4 @@
+pub mod FolderLemmas
 pub mod Basics
 pub mod GapLemmas
 pub mod WordLemmas
@@ -17,5 +18,13 @@ pub mod ListLemmas
 pub mod TokenLemmas
 pub mod Whole
 pub mod FormLemmas
+pub mod WalkLemmas
+pub mod FrameLemmas
+pub mod PassLemmas
 pub mod OneLemmas
 pub mod CallerLemmas
+pub mod StateLemmas
+pub mod StepLemmas
+pub mod PathLemmas
+pub mod AdvanceLemmas
+pub mod TotalLemmas

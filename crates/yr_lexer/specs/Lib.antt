@@ -5,5 +5,8 @@ pub mod Forms
 pub mod Faults
 pub mod Tokens
 pub mod Sources
+pub mod Includes
+pub mod Gathering
+pub mod OpenFiles
 pub mod Reading
 pub mod Candidates

@@ -73,6 +73,17 @@ impl From<AllocError> for GatherFault {
     }
 }
 
+impl<T: Drop> From<AllocFailed<T>> for GatherFault {
+    ghost use Rattle.std.specs.Prelude.{◌≡◌};
+    ghost use Rattle.yr_lexer.specs.declared.fault.GatherFault.TheVariants as gather_fault;
+
+    ghost from_gives = { λ _ e. e ≡ gather_fault.NoMemory };
+
+    fn from(_e: AllocFailed<T>) -> GatherFault {
+        GatherFault::NoMemory
+    }
+}
+
 /// Why files could not be gathered. Files go by their names, includes by their lines.
 #[derive(Debug, Drop, Error)]
 pub enum GatherFault {

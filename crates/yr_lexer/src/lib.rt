@@ -2,8 +2,11 @@
 #![tactic(auto)]
 
 mod fault;
+mod frame;
 mod gap;
+mod gathering;
 mod hex;
+mod include;
 mod laws;
 mod lexing;
 mod number;
@@ -18,7 +21,8 @@ mod token;
 mod tokens;
 
 pub use fault::{GatherFault, LexFault};
-pub use laws::{one_answer, one_meaning};
+pub use gathering::gather;
+pub use laws::{each_text_has_a_meaning, each_text_has_an_answer, one_answer, one_meaning};
 pub use lexing::lex;
 pub use source::{FileToken, SourceFile};
 pub use text::unescape;

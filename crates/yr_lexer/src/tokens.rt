@@ -28,6 +28,14 @@ impl Model for Tokens {
 }
 
 impl Tokens {
+    /// Files with the tokens that were gathered from them.
+    pub fn new(files: Vec<SourceFile>, tokens: Vec<FileToken>) -> Tokens
+        requires { All (LiesInFile (map sources.file_of files.items)) tokens.items }
+        ensures { result ≡ record { files = map sources.file_of files.items; tokens = tokens.items } }
+    {
+        Tokens { files, tokens }
+    }
+
     /// The files in the order in which they were read, a repeated one each time.
     pub fn files(&self) -> &[SourceFile]
         ensures { map sources.file_of result.now ≡ self.now.files }
