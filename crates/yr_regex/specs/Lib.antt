@@ -6,3 +6,5 @@ pub mod Grammar
 pub mod Faults
 pub mod Meaning
 pub mod Answers
+pub mod Reading
+pub mod Parts

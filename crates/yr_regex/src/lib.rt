@@ -1,6 +1,11 @@
 //! The reader of regular expressions, as `/\bab[^c-f]+(x|y){2,3}/` without its slashes.
 #![tactic(auto)]
 
+mod bounds;
+mod class;
+mod cursor;
+mod escape;
 mod fault;
+mod part;
 
 pub use fault::RegexFault;
