@@ -1,0 +1,4 @@
+pub mod Basics
+pub mod StepLemmas
+pub mod OutcomeLemmas
+pub mod NumberLemmas

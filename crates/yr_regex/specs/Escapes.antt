@@ -1,6 +1,6 @@
 -- Bytes, escapes and sets of regular expressions ('Writing YARA rules', Regular expressions). Each relation says that something stands at the front of a text, and what follows it.
 use Rattle.std.specs.Prelude.{◌≡◌, ℕ, ◌+◌, ◌-◌, ◌*◌, Bool, true, false, ◌&&◌, ◌||◌, ◌==◌, nat_le, if◌then◌else◌, List, [], ◌∷◌, Option, Some, None}
-use Rattle.yr_base.specs.Bytes.{is_digit, is_word_byte}
+use Rattle.yr_base.specs.Bytes.{is_digit}
 use Rattle.yr_pattern.specs.Set.{all_but, either, only}
 
 -- bytes
@@ -38,7 +38,7 @@ between from to b = nat_le from b && nat_le b to
 
 -- letters, digits and `_`
 abbrev pub word : ℕ → Bool
-word b = is_word_byte b
+word = either (either (either (between 65 90) (between 97 122)) (only 95)) (between 48 57)
 
 -- 09 to 0d, and 20
 abbrev pub space : ℕ → Bool

@@ -210,6 +210,14 @@ read_byte b t = if is_sign b then None else if is_some (read_quantifier same (b 
 unfoldable pub read_escape : Text → Outcome Element
 read_escape t = or_else (mapped Set (read_kind t)) (mapped Byte (read_escaped t))
 
+-- an element that is no group
+unfoldable pub read_simple : ℕ → Text → Outcome Element
+read_simple b t =
+    if b == 91 then read_class t
+    else if b == 92 then read_escape t
+    else if b == 46 then Some (Any, t)
+    else read_byte b t
+
 -- one of four, with `^`, `$`, `\b` and `\B`
 module _ {A : Type 0} (start end edge no_edge : A) where
   unfoldable pub read_edge : Text → Outcome A
@@ -237,12 +245,7 @@ ends (b ∷ t) = b == 41 || b == 124
 module _ (group : Text → Outcome Branches) where
   unfoldable pub read_element : Text → Outcome Element
   read_element [] = None
-  read_element (b ∷ t) =
-      if b == 40 then mapped Group (group t)
-      else if b == 91 then read_class t
-      else if b == 92 then read_escape t
-      else if b == 46 then Some (Any, t)
-      else read_byte b t
+  read_element (b ∷ t) = if b == 40 then mapped Group (group t) else read_simple b t
 
   unfoldable pub read_piece : Text → Outcome Piece
   read_piece t = or_else (read_anchor AtStart AtEnd AtEdge AtNoEdge t) (and_then (read_element t) (λ e u. Some (quantified e u)))
@@ -265,7 +268,7 @@ module _ (group : Text → Outcome Branches) where
 -- after a `(`, where groups nest no deeper than the number
 unfoldable pub group_at : ℕ → Text → Outcome Branches
 group_at zero t = None
-group_at (suc n) t = and_then (read_branches (group_at n) t) (λ bs u. and_then (expect 41 u) (λ _ v. Some (bs, v)))
+group_at (suc n) t = and_then (read_branches (group_at n) t) (λ bs u. if sees 41 u then Some (bs, after 41 u) else None)
 
 -- ---- the patterns made at once, with the numbers cut
 
@@ -369,15 +372,17 @@ unfoldable pub class_at : (nocase : Bool) → Text → Outcome PartRead
 class_at nocase t = mapped (class_part nocase (sees 94 t)) (members_at (length (after 94 t)) true no_bytes (after 94 t))
 
 module _ (nocase dot_all : Bool) where
+  unfoldable pub simple_at : ℕ → Text → Outcome PartRead
+  simple_at b t =
+      if b == 91 then class_at nocase t
+      else if b == 92 then escape_at nocase t
+      else if b == 46 then Some (set_part (dot_bytes dot_all), t)
+      else byte_at nocase b t
+
   module _ (group : Text → Outcome PartRead) where
     unfoldable pub element_at : Text → Outcome PartRead
     element_at [] = None
-    element_at (b ∷ t) =
-        if b == 40 then group t
-        else if b == 91 then class_at nocase t
-        else if b == 92 then escape_at nocase t
-        else if b == 46 then Some (set_part (dot_bytes dot_all), t)
-        else byte_at nocase b t
+    element_at (b ∷ t) = if b == 40 then group t else simple_at b t
 
     unfoldable pub piece_at : Text → Outcome PartRead
     piece_at t = or_else (mapped plain (read_anchor Start End Edge NotEdge t)) (and_then (element_at t) (λ p u. Some (quantified_part p u)))
@@ -403,4 +408,4 @@ module _ (nocase dot_all : Bool) where
   -- after a `(`
   unfoldable pub grouped_at : ℕ → Text → Outcome PartRead
   grouped_at zero t = None
-  grouped_at (suc n) t = and_then (expression_at (grouped_at n) t) (λ p u. and_then (expect 41 u) (λ _ v. Some (p, v)))
+  grouped_at (suc n) t = and_then (expression_at (grouped_at n) t) (λ p u. if sees 41 u then Some (p, after 41 u) else None)

@@ -1,6 +1,6 @@
 //! Bytes that are written with a `\`, and sets.
 
-ghost use Rattle.std.specs.Prelude.{◌≡◌, if◌then◌else◌, MatchOption, None, Some};
+ghost use Rattle.std.specs.Prelude.{◌≡◌, ℕ, ◌<◌, if◌then◌else◌, MatchOption, None, Some};
 ghost use Rattle.yr_pattern.specs.Set.{bytes_of, either, only};
 ghost use Rattle.yr_regex.specs.Escapes as escapes;
 ghost use Rattle.yr_regex.specs.Reading as spec;
@@ -27,7 +27,8 @@ pub fn is_sign(b: u8) -> bool
 }
 
 fn hex_digit(b: u8) -> Option<u8>
-    ensures { result ≡ escapes.hex_digit b }
+    ensures value { result ≡ escapes.hex_digit b }
+    ensures small { (d : ℕ) → result ≡ Some d → d < 16 }
 {
     match b {
         b'0'..=b'9' => Some(b - b'0'),
@@ -68,7 +69,8 @@ fn escaped(c: u8) -> Option<u8>
 
 #[tactic(auto, unfolding(crate::specs::Reading::read_digit))]
 fn read_digit(text: &mut Cursor<'_>) -> Option<u8>
-    ensures { Finds (λ x. x) (spec.read_digit text.old) result text.new }
+    ensures found { Finds (λ x. x) (spec.read_digit text.old) result text.new }
+    ensures small { (d : ℕ) → result ≡ Some d → d < 16 }
 {
     let [b, rest @ ..] = text.rest() else {
         return None;
@@ -84,7 +86,7 @@ fn read_hex(text: &mut Cursor<'_>) -> Option<u8>
 {
     let high = read_digit(text)?;
     let low = read_digit(text)?;
-    Some(high << 4 | low)
+    Some(16 * high + low)
 }
 
 /// The byte that a `\` and what follows it stand for.

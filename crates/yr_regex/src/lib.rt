@@ -4,6 +4,7 @@
 mod bounds;
 mod class;
 mod cursor;
+mod element;
 mod escape;
 mod fault;
 mod part;

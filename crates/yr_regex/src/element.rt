@@ -1,6 +1,6 @@
 //! Elements and pieces, sequences and branches of them, and groups.
 
-ghost use Rattle.std.specs.Prelude.{length, MatchOption, ◌≡◌, None, Some};
+ghost use Rattle.std.specs.Prelude.{◌≡◌, ◌∷◌, Some};
 ghost use Rattle.yr_pattern.specs.Tree as tree;
 ghost use Rattle.yr_pattern.specs.Tree.{tree_of};
 ghost use Rattle.yr_regex.specs.Parts.{part_of, parts_of};
@@ -23,7 +23,7 @@ pub struct Flags {
     pub dot_all: bool,
 }
 
-/// A byte that is no sign and with which no quantifier begins; `text` is from it on, `behind` what follows it.
+/// A byte that is no sign and with which no quantifier begins; `whole` is the text from it on.
 #[tactic(auto, unfolding(crate::specs::Reading::byte_at))]
 fn byte(text: &mut Cursor<'_>, nocase: bool, b: u8, whole: &[u8]) -> Option<Part>
     requires { whole.now ≡ b ∷ text.now }
@@ -65,7 +65,7 @@ fn class(text: &mut Cursor<'_>, nocase: bool) -> Option<Part>
 
 #[tactic(auto, unfolding(crate::specs::Reading::read_edge))]
 fn edge(text: &mut Cursor<'_>) -> Option<Pattern>
-    ensures { Finds tree_of (spec.read_edge tree.Edge tree.NotEdge text.old) result text.new }
+    ensures { Finds tree_of (spec.read_edge tree.Start tree.End tree.Edge tree.NotEdge text.old) result text.new }
 {
     let [c, rest @ ..] = text.rest() else {
         return None;
@@ -109,6 +109,20 @@ fn quantified(alloc: Global, text: &mut Cursor<'_>, part: Part) -> Result<Part, 
     Ok(part.repeated(alloc, left, bounds, lazy)?)
 }
 
+/// An element that is no group.
+#[tactic(auto, unfolding(crate::specs::Reading::simple_at))]
+fn simple(text: &mut Cursor<'_>, flags: Flags, b: u8, whole: &[u8]) -> Option<Part>
+    requires { whole.now ≡ b ∷ text.now }
+    ensures { Finds part_of (spec.simple_at flags.nocase flags.dot_all b text.old) result text.new }
+{
+    match b {
+        b'[' => class(text, flags.nocase),
+        b'\\' => escape(text, flags.nocase),
+        b'.' => Some(Part::dot(flags.dot_all)),
+        _ => byte(text, flags.nocase, b, whole),
+    }
+}
+
 /// What a quantifier may follow, with groups that nest no deeper than `depth`.
 #[cycle(regex)]
 #[tactic(auto, unfolding(crate::specs::Reading::element_at))]
@@ -125,7 +139,10 @@ fn element(alloc: Global, text: &mut Cursor<'_>, flags: Flags, depth: u32) -> Re
     if *b == b'(' {
         return group(alloc, text, flags, depth);
     }
-    simple(text, flags, *b, whole).ok_or(RegexFault::RegexSyntax)
+    let Some(part) = simple(text, flags, *b, whole) else {
+        return Err(RegexFault::RegexSyntax);
+    };
+    Ok(part)
 }
 
 /// A piece, with groups that nest no deeper than `depth`.
@@ -218,6 +235,8 @@ fn group(alloc: Global, text: &mut Cursor<'_>, flags: Flags, depth: u32) -> Resu
         return Err(RegexFault::RegexSyntax);
     }
     let inside = expression(alloc, text, flags, depth - 1)?;
-    text.expect(b')').ok_or(RegexFault::RegexSyntax)?;
-    Ok(inside)
+    if text.eat(b')') {
+        return Ok(inside);
+    }
+    Err(RegexFault::RegexSyntax)
 }
