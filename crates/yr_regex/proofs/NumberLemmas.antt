@@ -167,3 +167,19 @@ quantifier-found (b ∷ t) x e = ⊎_elim
     (chosen (b == 43) (Some (bounds 1 None false, t)) (if b == 63 then Some (bounds 0 (Some 1) false, t) else if b == 123 then read_braced same t else None) (Some x) c.1))
     (chosen (b == 42) (Some (bounds 0 None false, t))
     (if b == 43 then Some (bounds 1 None false, t) else if b == 63 then Some (bounds 0 (Some 1) false, t) else if b == 123 then read_braced same t else None) (Some x) e)
+
+Digits-shorter : {n v : ℕ} {t rest : Text} → Digits n t v rest → length rest ≤ length t
+Digits-shorter (end h) = omega arith
+Digits-shorter (digit h d) = let s = Digits-shorter d in omega arith
+
+Number-shorter : {v : ℕ} {t rest : Text} → Number t v rest → length rest < length t
+Number-shorter (number h d) = let s = Digits-shorter d in omega arith
+
+pub Quantifier-shorter : {least : ℕ} {most : Option ℕ} {exact : Bool} {t rest : Text} → ReadsQuantifier t least most exact rest → length rest < length t
+Quantifier-shorter star = omega arith
+Quantifier-shorter plus = omega arith
+Quantifier-shorter maybe = omega arith
+Quantifier-shorter (exactly d) = let a = Number-shorter d in omega arith
+Quantifier-shorter (from d) = let a = Number-shorter d in omega arith
+Quantifier-shorter (up_to d) = let a = Number-shorter d in omega arith
+Quantifier-shorter (between d e) = let a = Number-shorter d in let b = Number-shorter e in omega arith

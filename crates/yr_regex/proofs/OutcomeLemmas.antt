@@ -1,5 +1,5 @@
 -- What a step that read something had read.
-use Rattle.std.proofs.Common.{◌≡◌, ℕ, Bool, true, false, List, [], ◌∷◌, Option, Some, None, if◌then◌else◌, refl, sym, ap, ◌∙◌, ◌⊎◌, inl, inr}
+use Rattle.std.proofs.Common.{◌≡◌, ℕ, Bool, true, false, List, [], ◌∷◌, Option, Some, None, if◌then◌else◌, refl, sym, ap, subst, ◌∙◌, ◌⊎◌, inl, inr}
 use Rattle.std.specs.Prelude.{◌==◌}
 use Rattle.std.proofs.lemmas.Bool.{eqb-true, ne_eqb}
 use Rattle.yr_regex.specs.Escapes.{Text}
@@ -16,7 +16,7 @@ some_is x y e = cc
 
 pub mapped-some : {A B : Type 0} (f : A → B) (o : Outcome A) (y : B × Text) → mapped f o ≡ Some y
     → (a : A) × (o ≡ Some (a, y.1)) × (f a ≡ y.0)
-mapped-some f (Some x) y e =
+mapped-some {B = B} f (Some x) y e =
     let s = some_is (f x.0, x.1) y e in
     (x.0, ap (λ (z : B × Text). Some (x.0, z.1)) s, ap (λ (z : B × Text). z.0) s)
 mapped-some f None y e = absurd cc
@@ -26,7 +26,7 @@ or-some (Some x) other y e = inl e
 or-some None other y e = inr (refl, e)
 
 pub rest-some : {A : Type 0} (o : Option A) (t : Text) (y : A × Text) → with_rest o t ≡ Some y → (o ≡ Some y.0) × (t ≡ y.1)
-rest-some (Some a) t y e = let s = some_is (a, t) y e in (ap (λ (z : A × Text). Some z.0) s, ap (λ (z : A × Text). z.1) s)
+rest-some {A = A} (Some a) t y e = let s = some_is (a, t) y e in (ap (λ (z : A × Text). Some z.0) s, ap (λ (z : A × Text). z.1) s)
 rest-some None t y e = absurd cc
 
 pub chosen : {A : Type 0} (b : Bool) (x y z : A) → (if b then x else y) ≡ z → ((b ≡ true) × (x ≡ z)) ⊎ ((b ≡ false) × (y ≡ z))
@@ -57,3 +57,6 @@ after-false b t h = if_false (sees b t) (tail t) t h
 pub sees-other : (b c : ℕ) (t : Text) → (c ≡ b → ⊥) → sees b (c ∷ t) ≡ false
 unfolding sees
 sees-other b c t n = ne_eqb c b n
+
+pub moved : {A : Type 0} (R : A → Text → Type 0) (a : A) (t : Text) (x : A × Text) → ◌≡◌ {A = Outcome A} (Some (a, t)) (Some x) → R a t → R x.0 x.1
+moved R a t x e r = subst (λ y. R y.0 y.1) (some_is (a, t) x e) r
