@@ -57,17 +57,17 @@ member-read (range {first = first} {a = a} {b = b} {t = t} {u = u} {rest = rest}
     bytes-read r ∙ if_true (goes_on (45 ∷ u)) _ _ (single-goes s) ∙ then-some (read_single false u) (λ to v. Some (Range (length t) a to, v)) (b, rest) (single-read s)
 member-read (single {rest = rest} r idle) = bytes-read r ∙ if_false (goes_on rest) _ _ idle
 
-Single-shorter : {first : Bool} {b : ℕ} {t rest : Text} → ReadsSingle first t b rest → length rest < length t
+pub Single-shorter : {first : Bool} {b : ℕ} {t rest : Text} → ReadsSingle first t b rest → length rest < length t
 Single-shorter (plain n m) = omega arith
 Single-shorter bracket = omega arith
 Single-shorter (escape r) = Escape-shorter r
 
-Member-shorter : {first : Bool} {m : Member} {t rest : Text} → ReadsMember first t m rest → length rest < length t
+pub Member-shorter : {first : Bool} {m : Member} {t rest : Text} → ReadsMember first t m rest → length rest < length t
 Member-shorter (set e) = omega arith
 Member-shorter (range r s) = let a = Single-shorter r in let b = Single-shorter s in omega arith
 Member-shorter (single r idle) = Single-shorter r
 
-Members-shorter : {first : Bool} {ms : List Member} {t rest : Text} → ReadsMembers first t ms rest → length rest < length t
+pub Members-shorter : {first : Bool} {ms : List Member} {t rest : Text} → ReadsMembers first t ms rest → length rest < length t
 Members-shorter (last_member r) = let a = Member-shorter r in omega arith
 Members-shorter (member_then r rs) = let a = Member-shorter r in let b = Members-shorter rs in omega arith
 

@@ -139,7 +139,7 @@ no_lazy (b ∷ t) h = bool_cases ((b == 63) ≡ false) (b == 63)
 -- ---- each part takes a byte
 
 mutual
-  Element-shorter : {n : ℕ} {e : Element} {t rest : Text} → ReadsElement n t e rest → length rest < length t
+  pub Element-shorter : {n : ℕ} {e : Element} {t rest : Text} → ReadsElement n t e rest → length rest < length t
   Element-shorter (byte h n) = omega arith
   Element-shorter (escape r) = Escape-shorter r
   Element-shorter any = omega arith
@@ -147,7 +147,7 @@ mutual
   Element-shorter (class r) = Class-shorter r
   Element-shorter (group r) = let s = Branches-shorter r in omega arith
 
-  Piece-shorter : {n : ℕ} {p : Piece} {t rest : Text} → ReadsPiece n t p rest → length rest < length t
+  pub Piece-shorter : {n : ℕ} {p : Piece} {t rest : Text} → ReadsPiece n t p rest → length rest < length t
   Piece-shorter (alone r) = Element-shorter r
   Piece-shorter (repeated r q) = let a = Element-shorter r in let b = Quantifier-shorter q in omega arith
   Piece-shorter (lazy r q) = let a = Element-shorter r in let b = Quantifier-shorter q in omega arith
@@ -156,11 +156,11 @@ mutual
   Piece-shorter edge = omega arith
   Piece-shorter no_edge = omega arith
 
-  Pieces-shorter : {n : ℕ} {ps : Pieces} {t rest : Text} → ReadsPieces n t ps rest → length rest ≤ length t
+  pub Pieces-shorter : {n : ℕ} {ps : Pieces} {t rest : Text} → ReadsPieces n t ps rest → length rest ≤ length t
   Pieces-shorter no_piece = omega arith
   Pieces-shorter (piece_then r rs) = let a = Piece-shorter r in let b = Pieces-shorter rs in omega arith
 
-  Branches-shorter : {n : ℕ} {bs : Branches} {t rest : Text} → ReadsBranches n t bs rest → length rest ≤ length t
+  pub Branches-shorter : {n : ℕ} {bs : Branches} {t rest : Text} → ReadsBranches n t bs rest → length rest ≤ length t
   Branches-shorter (last_branch r) = Pieces-shorter r
   Branches-shorter (branch_then r rs) = let a = Pieces-shorter r in let b = Branches-shorter rs in omega arith
 
@@ -235,6 +235,10 @@ as_some x y e = ap (λ z. Some z) e
 
 -- ---- all parts
 
+close-no_bar : (rest : Text) → sees 124 (41 ∷ rest) ≡ false
+unfolding sees
+close-no_bar rest = refl
+
 at_start : (rest : Text) → read_anchor AtStart AtEnd AtEdge AtNoEdge (94 ∷ rest) ≡ Some (AtStart, rest)
 unfolding read_anchor read_edge
 at_start rest = refl
@@ -264,7 +268,7 @@ mutual
       ap (λ (u : Text). read_element (group_at n) u) e.1 ∙ no_group (group_at n) 91 e.0 refl ∙ class-part e.0 ∙ e.2
   element-complete (group {n = n} {bs = bs} {t = t} {rest = rest} r) =
       at_group (group_at (suc n)) t
-      ∙ ap (λ (o : Outcome Branches). mapped Group o) (group-read n t bs rest (branches-complete r refl refl (suc (length t)) (omega arith)))
+      ∙ ap (λ (o : Outcome Branches). mapped Group o) (group-read n t bs rest (branches-complete r refl (close-no_bar rest) (suc (length t)) (omega arith)))
 
   piece-complete : {n : ℕ} {p : Piece} {t rest : Text} → ReadsPiece n t p rest → read_quantifier same rest ≡ None → read_piece (group_at n) t ≡ Some (p, rest)
   piece-complete (alone {n = n} {e = e} {t = t} {rest = rest} r) h =

@@ -6,3 +6,5 @@ pub mod ByteLemmas
 pub mod ClassLemmas
 pub mod Complete
 pub mod Sound
+pub mod Summary
+pub mod SameLemmas

@@ -1,6 +1,9 @@
 -- What a regular expression is: a pattern with its greed, no expression, one with a bad place, or one of both greeds.
-use Rattle.std.specs.Prelude.{◌≡◌, ℕ, ◌+◌, ◌≤◌, Bool, true, false, not, ◌&&◌, length}
-use Rattle.yr_pattern.specs.Tree.{Tree}
+use Rattle.std.specs.Prelude.{◌≡◌, ℕ, ◌+◌, ◌≤◌, Bool, true, false, not, ◌&&◌, length, Result, Ok, Err}
+use Rattle.yr_pattern.specs.Tree.{Tree, tree_of}
+use Rattle.yr_regex.specs.declared.fault.RegexFault.{RegexFault}
+use Rattle.yr_regex.specs.declared.fault.RegexFault.TheVariants.{RegexSyntax, RegexRange, MixedGreed, NoMemory}
+use Rattle.yr_regex.specs.declared.regex.Regex.{Regex}
 use Rattle.yr_regex.specs.Escapes.{Text}
 use Rattle.yr_regex.specs.Expressions.{Branches}
 use Rattle.yr_regex.specs.Grammar.{SpellsRegex}
@@ -35,3 +38,11 @@ pub record HasMixedGreed (t : Text) : Type 0 where
   pub spells : SpellsRegex t branches
   pub good : (left : ℕ) → ¬ HasBadBranch branches left
   pub mixed : (has_lazy branches && has_eager branches) ≡ true
+
+-- the answer is the one that the text has, unless there was no memory
+abbrev pub Answers : Text → (nocase dot_all : Bool) → Result Regex RegexFault → Type 0
+Answers t nocase dot_all (Ok regex) = IsRegex t nocase dot_all (tree_of regex.pattern) regex.greedy
+Answers t nocase dot_all (Err RegexSyntax) = HasNoReading t
+Answers t nocase dot_all (Err (RegexRange place)) = IsFirstBad t place
+Answers t nocase dot_all (Err MixedGreed) = HasMixedGreed t
+Answers t nocase dot_all (Err NoMemory) = Unit {0}

@@ -403,7 +403,7 @@ module _ (nocase dot_all : Bool) where
 
     unfoldable pub expression_at : Text → Outcome PartRead
     expression_at t = and_then (sequence_at t) (λ p u.
-        if sees 124 u then branches_at (length u) (single p) (after 124 u) else Some (p, after 124 u))
+        if sees 124 u then branches_at (length t) (single p) (after 124 u) else Some (p, after 124 u))
 
   -- after a `(`
   unfoldable pub grouped_at : ℕ → Text → Outcome PartRead

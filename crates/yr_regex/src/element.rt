@@ -218,8 +218,8 @@ pub fn expression(alloc: Global, text: &mut Cursor<'_>, flags: Flags, depth: u32
         (spec.expression_at flags.nocase flags.dot_all (spec.grouped_at flags.nocase flags.dot_all depth) text.old)
         result text.new }
 {
-    let first = sequence(alloc, text, flags, depth)?;
     let left = text.left();
+    let first = sequence(alloc, text, flags, depth)?;
     if text.eat(b'|') {
         return branches(alloc, text, flags, depth, first, left);
     }

@@ -8,5 +8,7 @@ mod element;
 mod escape;
 mod fault;
 mod part;
+mod regex;
 
 pub use fault::RegexFault;
+pub use regex::{Regex, read_regex};
