@@ -8,3 +8,6 @@ pub mod Complete
 pub mod Sound
 pub mod Summary
 pub mod SameLemmas
+pub mod BadLemmas
+pub mod MeaningLemmas
+pub mod AnswerLemmas

@@ -7,6 +7,7 @@ mod cursor;
 mod element;
 mod escape;
 mod fault;
+pub mod laws;
 mod part;
 mod regex;
 
