@@ -6,11 +6,12 @@ use Rattle.yr_regex.specs.declared.fault.RegexFault.{RegexFault}
 use Rattle.yr_regex.specs.declared.fault.RegexFault.TheVariants.{RegexSyntax, RegexRange, MixedGreed, NoMemory}
 use Rattle.yr_regex.specs.declared.part.Part.{Part}
 use Rattle.yr_regex.specs.declared.regex.Regex.{Regex}
-use Rattle.yr_regex.specs.Answers.{IsRegex, HasNoReading, IsFirstBad, HasMixedGreed, Answers}
+use Rattle.yr_regex.specs.Answers.{IsRegex, HasNoReading, IsFirstBad, HasMixedGreed, Answers, Agree}
 use Rattle.yr_regex.specs.Escapes.{Text}
 use Rattle.yr_regex.specs.Expressions.{Branches}
 use Rattle.yr_regex.specs.Faults.{HasBadBranch, has_lazy, has_eager}
 use Rattle.yr_regex.specs.Grammar.{ReadsBranches, SpellsRegex}
+use Rattle.yr_regex.specs.Meaning.{meaning}
 use Rattle.yr_regex.specs.Parts.{part_of, Judged}
 use Rattle.yr_regex.specs.Reading.{Outcome, Yields, mapped, PartRead, read_branches, group_at, expression_at, grouped_at}
 use Rattle.yr_regex.proofs.BadLemmas.{IsGreatest, branches-greatest, branches-lazy, branches-eager}
@@ -96,3 +97,58 @@ module _ (t : Text) (nocase dot_all : Bool) where
       let m = mapped-some (branches_part nocase dot_all) (read_branches (group_at 64) t) (p, u) (sym (regex-same nocase dot_all t) ∙ e) in
       judged m.0 (subst (λ (w : Text). ReadsBranches 64 t m.0 w) (empty u h) (regex-sound t (m.0, u) m.1)) r
       (subst (λ (q : PartRead). Judged q (length t) r) (sym m.2) j)
+
+-- ---- one answer
+
+same_bad : (a b : Branches) (left : ℕ) → a ≡ b → HasBadBranch a left → HasBadBranch b left
+same_bad a b left e h = subst (λ (x : Branches). HasBadBranch x left) e h
+
+module _ (t : Text) (nocase dot_all : Bool) where
+  two_greeds : (a b : Branches) → a ≡ b → (has_lazy a && has_eager a) ≡ false → (has_lazy b && has_eager b) ≡ true → ⊥
+  two_greeds a b e f g = let h = ap (λ (x : Branches). has_lazy x && has_eager x) e in absurd cc
+
+  same-regex : (a b : Regex) → IsRegex t nocase dot_all (tree_of a.pattern) a.greedy → IsRegex t nocase dot_all (tree_of b.pattern) b.greedy → Agree (Ok a) (Ok b)
+  same-regex a b x y =
+      let e = one-reading t x.branches y.branches x.spells y.spells in
+      (x.means ∙ ap (meaning nocase dot_all) e ∙ sym y.means, x.greed ∙ ap (λ (z : Branches). not (has_lazy z)) e ∙ sym y.greed)
+
+  no-bad : (a : Regex) (p : ℕ) → IsRegex t nocase dot_all (tree_of a.pattern) a.greedy → IsFirstBad t p → ⊥
+  no-bad a p x y = x.good y.left (same_bad y.branches x.branches y.left (one-reading t y.branches x.branches y.spells x.spells) y.bad)
+
+  no-mixed : (a : Regex) → IsRegex t nocase dot_all (tree_of a.pattern) a.greedy → HasMixedGreed t → ⊥
+  no-mixed a x y = two_greeds x.branches y.branches (one-reading t x.branches y.branches x.spells y.spells) x.one_greed y.mixed
+
+  one-place : (p q : ℕ) → IsFirstBad t p → IsFirstBad t q → p ≡ q
+  one-place p q x y =
+      let e = one-reading t x.branches y.branches x.spells y.spells in
+      let a = y.first x.left (same_bad x.branches y.branches x.left e x.bad) in
+      let b = x.first y.left (same_bad y.branches x.branches y.left (sym e) y.bad) in
+      let c = x.at in
+      let d = y.at in
+      omega arith
+
+  bad-mixed : (p : ℕ) → IsFirstBad t p → HasMixedGreed t → ⊥
+  bad-mixed p x y = y.good x.left (same_bad x.branches y.branches x.left (one-reading t x.branches y.branches x.spells y.spells) x.bad)
+
+  pub one-answer : (r s : Result Regex RegexFault) → Answers t nocase dot_all r → Answers t nocase dot_all s → Agree r s
+  one-answer (Ok a) (Ok b) x y = same-regex a b x y
+  one-answer (Ok a) (Err RegexSyntax) x y = y x.branches x.spells
+  one-answer (Ok a) (Err (RegexRange q)) x y = no-bad a q x y
+  one-answer (Ok a) (Err MixedGreed) x y = no-mixed a x y
+  one-answer (Ok a) (Err NoMemory) x y = tt
+  one-answer (Err RegexSyntax) (Ok b) x y = x y.branches y.spells
+  one-answer (Err RegexSyntax) (Err RegexSyntax) x y = tt
+  one-answer (Err RegexSyntax) (Err (RegexRange q)) x y = x y.branches y.spells
+  one-answer (Err RegexSyntax) (Err MixedGreed) x y = x y.branches y.spells
+  one-answer (Err RegexSyntax) (Err NoMemory) x y = tt
+  one-answer (Err (RegexRange p)) (Ok b) x y = no-bad b p y x
+  one-answer (Err (RegexRange p)) (Err RegexSyntax) x y = y x.branches x.spells
+  one-answer (Err (RegexRange p)) (Err (RegexRange q)) x y = one-place p q x y
+  one-answer (Err (RegexRange p)) (Err MixedGreed) x y = bad-mixed p x y
+  one-answer (Err (RegexRange p)) (Err NoMemory) x y = tt
+  one-answer (Err MixedGreed) (Ok b) x y = no-mixed b y x
+  one-answer (Err MixedGreed) (Err RegexSyntax) x y = y x.branches x.spells
+  one-answer (Err MixedGreed) (Err (RegexRange q)) x y = bad-mixed q y x
+  one-answer (Err MixedGreed) (Err MixedGreed) x y = tt
+  one-answer (Err MixedGreed) (Err NoMemory) x y = tt
+  one-answer (Err NoMemory) s x y = tt

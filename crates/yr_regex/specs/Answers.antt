@@ -46,3 +46,27 @@ Answers t nocase dot_all (Err RegexSyntax) = HasNoReading t
 Answers t nocase dot_all (Err (RegexRange place)) = IsFirstBad t place
 Answers t nocase dot_all (Err MixedGreed) = HasMixedGreed t
 Answers t nocase dot_all (Err NoMemory) = Unit {0}
+
+-- two answers are the same, where neither is for want of memory
+abbrev pub Agree : Result Regex RegexFault → Result Regex RegexFault → Type 0
+Agree (Ok a) (Ok b) = (tree_of a.pattern ≡ tree_of b.pattern) × (a.greedy ≡ b.greedy)
+Agree (Ok a) (Err RegexSyntax) = ⊥
+Agree (Ok a) (Err (RegexRange q)) = ⊥
+Agree (Ok a) (Err MixedGreed) = ⊥
+Agree (Ok a) (Err NoMemory) = Unit {0}
+Agree (Err RegexSyntax) (Ok b) = ⊥
+Agree (Err RegexSyntax) (Err RegexSyntax) = Unit {0}
+Agree (Err RegexSyntax) (Err (RegexRange q)) = ⊥
+Agree (Err RegexSyntax) (Err MixedGreed) = ⊥
+Agree (Err RegexSyntax) (Err NoMemory) = Unit {0}
+Agree (Err (RegexRange p)) (Ok b) = ⊥
+Agree (Err (RegexRange p)) (Err RegexSyntax) = ⊥
+Agree (Err (RegexRange p)) (Err (RegexRange q)) = p ≡ q
+Agree (Err (RegexRange p)) (Err MixedGreed) = ⊥
+Agree (Err (RegexRange p)) (Err NoMemory) = Unit {0}
+Agree (Err MixedGreed) (Ok b) = ⊥
+Agree (Err MixedGreed) (Err RegexSyntax) = ⊥
+Agree (Err MixedGreed) (Err (RegexRange q)) = ⊥
+Agree (Err MixedGreed) (Err MixedGreed) = Unit {0}
+Agree (Err MixedGreed) (Err NoMemory) = Unit {0}
+Agree (Err NoMemory) s = Unit {0}
