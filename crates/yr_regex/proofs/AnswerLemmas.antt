@@ -1,10 +1,9 @@
 -- The answer to a whole text, and that it has one reading.
-use Rattle.std.proofs.Common.{◌≡◌, ℕ, ◌+◌, ◌-◌, ◌<◌, ◌≤◌, Bool, true, false, List, [], ◌∷◌, length, Option, Some, None, Result, Ok, Err, refl, sym, ap, subst, ◌∙◌, arith}
+use Rattle.std.proofs.Common.{◌≡◌, ℕ, ◌<◌, ◌≤◌, Bool, true, false, [], ◌∷◌, length, Option, Some, None, Result, Ok, Err, refl, sym, ap, subst, ◌∙◌, arith}
 use Rattle.std.specs.Prelude.{not, ◌&&◌}
 use Rattle.yr_pattern.specs.Tree.{tree_of}
 use Rattle.yr_regex.specs.declared.fault.RegexFault.{RegexFault}
 use Rattle.yr_regex.specs.declared.fault.RegexFault.TheVariants.{RegexSyntax, RegexRange, MixedGreed, NoMemory}
-use Rattle.yr_regex.specs.declared.part.Part.{Part}
 use Rattle.yr_regex.specs.declared.regex.Regex.{Regex}
 use Rattle.yr_regex.specs.Answers.{IsRegex, HasNoReading, IsFirstBad, HasMixedGreed, Answers, Agree}
 use Rattle.yr_regex.specs.Escapes.{Text}

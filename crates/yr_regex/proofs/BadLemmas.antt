@@ -1,9 +1,9 @@
 -- The first bad place: the greatest number of bytes left. The greed of the quantifiers.
-use Rattle.std.proofs.Common.{◌≡◌, ℕ, ◌+◌, ◌<◌, ◌≤◌, ◌^◌, ◌⊎◌, inl, inr, ⊎_elim, Bool, true, false, List, [], ◌∷◌, length, Option, Some, None, if◌then◌else◌, refl, sym, ap, subst, ◌∙◌, arith}
-use Rattle.std.specs.Prelude.{◌&&◌, ◌||◌, not, nat_le, min, max}
+use Rattle.std.proofs.Common.{◌≡◌, ℕ, ◌<◌, ◌≤◌, ◌⊎◌, inl, inr, Bool, true, false, List, [], ◌∷◌, Option, Some, None, if◌then◌else◌, refl, ap, subst, ◌∙◌, arith}
+use Rattle.std.specs.Prelude.{◌&&◌, ◌||◌, not, nat_le, max}
 use Rattle.std.proofs.lemmas.Bool.{leb-true, le-leb, and_parts, and_from, cases_lt}
 use Rattle.yr_regex.specs.Expressions.{Member, Single, Kind, Range, Element, Piece, Pieces, Branches, Byte, Any, Set, Class, Group, Alone, Repeated, AtStart, AtEnd, AtEdge, AtNoEdge, none, more, only, or}
-use Rattle.yr_regex.specs.Faults.{IsOrdered, IsAllowed, IsBadMember, HasBadMember, IsBadElement, IsBadPiece, HasBadPiece, HasBadBranch, in_element, in_piece, in_pieces, in_branches, has_lazy, has_eager}
+use Rattle.yr_regex.specs.Faults.{IsAllowed, IsBadMember, HasBadMember, IsBadElement, IsBadPiece, HasBadPiece, HasBadBranch, in_element, in_piece, in_pieces, in_branches}
 use Rattle.yr_regex.specs.Reading.{cut, capped, allows, first_of, member_read, members_read}
 use Rattle.yr_regex.proofs.Basics.{by_test}
 use Rattle.yr_regex.proofs.Summary.{element_part, piece_part, pieces_list, branches_list, branches_part}

@@ -1,11 +1,11 @@
 -- Escapes and sets: what is read is what the grammar has.
-use Rattle.std.proofs.Common.{◌≡◌, ℕ, ◌+◌, ◌*◌, ◌<◌, ◌≤◌, ◌⊎◌, inl, inr, ⊎_elim, Bool, true, false, List, [], ◌∷◌, length, Option, Some, None, if◌then◌else◌, refl, sym, ap, subst, ◌∙◌, arith}
+use Rattle.std.proofs.Common.{◌≡◌, ℕ, ◌+◌, ◌*◌, ◌<◌, ⊎_elim, Bool, [], ◌∷◌, length, Option, Some, None, refl, sym, ap, subst, ◌∙◌, arith}
 use Rattle.std.specs.Prelude.{◌==◌}
 use Rattle.std.proofs.lemmas.Bool.{eqb-true, ne_eqb}
 use Rattle.yr_regex.specs.Escapes.{Text, hex_digit, escaped, kind, ReadsEscape, letter, number}
-use Rattle.yr_regex.specs.Reading.{Outcome, and_then, with_rest, sees, after, read_digit, read_hex, read_escaped, read_kind, read_set}
-use Rattle.yr_regex.proofs.StepLemmas.{if_true, if_false, then-some}
-use Rattle.yr_regex.proofs.OutcomeLemmas.{bind-some, some_is, chosen, guarded, rest-some, moved, after-true, sees-other}
+use Rattle.yr_regex.specs.Reading.{and_then, with_rest, sees, after, read_digit, read_hex, read_escaped, read_kind, read_set}
+use Rattle.yr_regex.proofs.StepLemmas.{if_false, then-some}
+use Rattle.yr_regex.proofs.OutcomeLemmas.{bind-some, chosen, guarded, rest-some, moved, after-true}
 
 digit-read : (h : ℕ) (t : Text) (d : ℕ) → hex_digit h ≡ Some d → read_digit (h ∷ t) ≡ Some (d, t)
 unfolding read_digit

@@ -1,14 +1,14 @@
 -- Classes: what is read is what the grammar has.
-use Rattle.std.proofs.Common.{◌≡◌, ℕ, zero, suc, ◌+◌, ◌<◌, ◌≤◌, ◌⊎◌, inl, inr, ⊎_elim, Bool, true, false, List, [], ◌∷◌, length, Option, Some, None, if◌then◌else◌, refl, sym, ap, subst, ◌∙◌, arith}
+use Rattle.std.proofs.Common.{◌≡◌, ℕ, zero, suc, ◌<◌, ◌≤◌, ⊎_elim, Bool, true, false, List, [], ◌∷◌, length, Some, None, if◌then◌else◌, refl, sym, ap, subst, ◌∙◌, arith}
 use Rattle.std.specs.Prelude.{◌==◌, ◌&&◌, not}
 use Rattle.std.proofs.lemmas.Bool.{eqb-true, eqb-false, ne_eqb, and_parts}
-use Rattle.yr_regex.specs.Escapes.{Text, kind, ReadsEscape, letter, number}
+use Rattle.yr_regex.specs.Escapes.{Text, letter, number}
 use Rattle.yr_regex.specs.Expressions.{Member, Single, Kind, Range, Element, Class}
 use Rattle.yr_regex.specs.Classes.{ReadsSingle, plain, bracket, escape, goes_on, ReadsMember, set, range, single, ReadsMembers, last_member, member_then, begins_caret, ReadsClass, members, complement}
 use Rattle.yr_regex.specs.Reading.{Outcome, and_then, or_else, mapped, sees, after, tail, read_escaped, read_set, read_single, read_range, read_bytes, read_member, members_from, read_class}
 use Rattle.yr_regex.proofs.Basics.{bool_cases}
 use Rattle.yr_regex.proofs.StepLemmas.{if_true, if_false, then-some}
-use Rattle.yr_regex.proofs.OutcomeLemmas.{bind-some, some_is, mapped-some, or-some, chosen, unless, moved, after-true, after-false, sees-other}
+use Rattle.yr_regex.proofs.OutcomeLemmas.{bind-some, mapped-some, or-some, chosen, unless, moved, after-true, after-false}
 use Rattle.yr_regex.proofs.ByteLemmas.{escape-read, escape-found, escape-no_set, set-read, set-found, Escape-shorter}
 
 -- ---- a class is read
@@ -115,10 +115,13 @@ complement-read {t = t} r = ap (λ (o : Outcome (List Member)). mapped (Class tr
 pub class-read : {negated : Bool} {ms : List Member} {t rest : Text} → ReadsClass t negated ms rest
     → (u : Text) × (t ≡ 91 ∷ u) × (read_class u ≡ Some (Class negated ms, rest))
 unfolding read_class
-class-read (members {ms = ms} {t = t} {rest = rest} h r) =
-    (t, refl, ap (λ (b : Bool). mapped (Class b) (members_from (length (after 94 t)) true (after 94 t))) (caret t h)
-    ∙ ap (λ (u : Text). mapped (Class false) (members_from (length u) true u)) (after-false 94 t (caret t h))
-    ∙ ap (λ (o : Outcome (List Member)). mapped (Class false) o) (members-read r (length t) (omega arith)))
+class-read (members {ms = ms} {t = t} {rest = rest} h r) = (
+  t,
+  refl,
+  ap (λ (b : Bool). mapped (Class b) (members_from (length (after 94 t)) true (after 94 t))) (caret t h)
+      ∙ ap (λ (u : Text). mapped (Class false) (members_from (length u) true u)) (after-false 94 t (caret t h))
+      ∙ ap (λ (o : Outcome (List Member)). mapped (Class false) o) (members-read r (length t) (omega arith)),
+)
 class-read (complement {t = t} r) = (94 ∷ t, refl, complement-read r)
 
 pub Class-shorter : {negated : Bool} {ms : List Member} {t rest : Text} → ReadsClass t negated ms rest → length rest < length t
@@ -193,8 +196,11 @@ pub class-found : (t : Text) (x : Element × Text) → read_class t ≡ Some x �
 unfolding read_class
 class-found t x e =
     let k = mapped-some (Class (sees 94 t)) (members_from (length (after 94 t)) true (after 94 t)) x e in
-    let r = members-found (length (after 94 t)) true (after 94 t) (k.0, x.1) k.1 in
-    (sees 94 t, k.0, bool_cases (ReadsClass (91 ∷ t) (sees 94 t) k.0 x.1) (sees 94 t)
-    (λ h. subst (λ (b : Bool). ReadsClass (91 ∷ t) b k.0 x.1) (sym h) (subst (λ (w : Text). ReadsClass (91 ∷ w) true k.0 x.1) (sym (after-true 94 t h)) (complement r)))
-    (λ h. subst (λ (b : Bool). ReadsClass (91 ∷ t) b k.0 x.1) (sym h) (members (no_caret t h) (subst (λ (w : Text). ReadsMembers true w k.0 x.1) (after-false 94 t h) r))),
-    k.2)
+    let r = members-found (length (after 94 t)) true (after 94 t) (k.0, x.1) k.1 in (
+      sees 94 t,
+      k.0,
+      bool_cases (ReadsClass (91 ∷ t) (sees 94 t) k.0 x.1) (sees 94 t)
+          (λ h. subst (λ (b : Bool). ReadsClass (91 ∷ t) b k.0 x.1) (sym h) (subst (λ (w : Text). ReadsClass (91 ∷ w) true k.0 x.1) (sym (after-true 94 t h)) (complement r)))
+          (λ h. subst (λ (b : Bool). ReadsClass (91 ∷ t) b k.0 x.1) (sym h) (members (no_caret t h) (subst (λ (w : Text). ReadsMembers true w k.0 x.1) (after-false 94 t h) r))),
+      k.2,
+    )

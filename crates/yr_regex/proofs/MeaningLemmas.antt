@@ -1,6 +1,5 @@
 -- The pattern that is made, where nothing is bad. Where a bad place may stand.
-use Rattle.std.proofs.Common.{◌≡◌, ℕ, ◌≤◌, ◌⊎◌, inl, inr, Bool, true, false, List, [], ◌∷◌, ◌++◌, length, Option, Some, None, refl, sym, ap, subst, ◌∙◌, arith}
-use Rattle.yr_pattern.specs.Set.{either, no_byte}
+use Rattle.std.proofs.Common.{◌≡◌, ℕ, ◌≤◌, inl, inr, Bool, List, [], ◌∷◌, length, Option, refl, ap, ◌∙◌, arith}
 use Rattle.yr_pattern.specs.Tree.{Tree, Trees, One, Seq, Alt, Rep, trees_of}
 use Rattle.yr_pattern.specs.Tree as tree
 use Rattle.yr_regex.specs.Escapes.{Text}

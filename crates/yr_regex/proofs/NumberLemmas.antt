@@ -1,15 +1,15 @@
 -- Numbers and quantifiers: what is read is what the grammar has.
-use Rattle.std.proofs.Common.{◌≡◌, ℕ, ◌+◌, ◌-◌, ◌*◌, ◌<◌, ◌≤◌, ◌^◌, ◌⊎◌, inl, inr, ⊎_elim, Bool, true, false, List, [], ◌∷◌, length, Option, Some, None, if◌then◌else◌, refl, sym, ap, subst, ◌∙◌, arith}
-use Rattle.std.specs.Prelude.{◌==◌, ◌&&◌, nat_le, min}
+use Rattle.std.proofs.Common.{◌≡◌, ℕ, ◌+◌, ◌-◌, ◌*◌, ◌<◌, ◌≤◌, ⊎_elim, Bool, true, false, [], ◌∷◌, length, Option, Some, None, if◌then◌else◌, refl, sym, ap, subst, ◌∙◌, arith}
+use Rattle.std.specs.Prelude.{◌==◌, nat_le}
 use Rattle.std.proofs.lemmas.Bool.{leb-true, and_parts, eqb-true, ne_eqb}
 use Rattle.yr_base.specs.Bytes.{is_digit}
 use Rattle.yr_regex.specs.declared.bounds.Bounds.{Bounds}
 use Rattle.yr_regex.specs.Escapes.{Text}
 use Rattle.yr_regex.specs.Quantifiers.{begins_digit, Digits, end, digit, Number, number, ReadsQuantifier, star, plus, maybe, exactly, from, up_to, between}
-use Rattle.yr_regex.specs.Reading.{Outcome, and_then, mapped, sees, after, expect, tail, bounds, read_close, past_digits, read_number, read_most, read_last, read_next, read_braced, read_quantifier, same, cut, capped}
+use Rattle.yr_regex.specs.Reading.{and_then, sees, after, expect, tail, bounds, read_close, past_digits, read_number, read_most, read_last, read_next, read_braced, read_quantifier, same}
 use Rattle.yr_regex.proofs.Basics.{bool_cases}
 use Rattle.yr_regex.proofs.StepLemmas.{if_true, if_false, then-some}
-use Rattle.yr_regex.proofs.OutcomeLemmas.{bind-some, some_is, chosen, guarded, sees-true, after-true, after-false, sees-other}
+use Rattle.yr_regex.proofs.OutcomeLemmas.{bind-some, some_is, chosen, guarded, sees-true, after-true, after-false}
 
 -- ---- numbers
 

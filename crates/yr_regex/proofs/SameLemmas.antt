@@ -1,17 +1,16 @@
 -- The parts that are made at once are those of what is read.
-use Rattle.std.proofs.Common.{◌≡◌, ℕ, zero, suc, ◌+◌, ◌-◌, ◌*◌, ◌<◌, ◌≤◌, ◌^◌, ◌⊎◌, inl, inr, ⊎_elim, Bool, true, false, List, [], ◌∷◌, ◌++◌, length, Option, Some, None, if◌then◌else◌, refl, sym, ap, subst, ◌∙◌, append_assoc, arith}
-use Rattle.std.specs.Prelude.{◌==◌, ◌||◌, min, max}
+use Rattle.std.proofs.Common.{◌≡◌, ℕ, zero, suc, ◌+◌, ◌-◌, ◌*◌, ◌≤◌, Bool, true, false, List, [], ◌∷◌, ◌++◌, length, Option, Some, None, if◌then◌else◌, refl, sym, ap, ◌∙◌, append_assoc, arith}
+use Rattle.std.specs.Prelude.{◌==◌, ◌||◌, max}
 use Rattle.std.proofs.Math.Path.{fun_ext}
 use Rattle.yr_base.specs.Bytes.{is_digit}
-use Rattle.yr_pattern.specs.Set.{no_byte, either, only}
+use Rattle.yr_pattern.specs.Set.{no_byte, either}
 use Rattle.yr_pattern.specs.Tree.{Tree, Start, End, Edge, NotEdge}
 use Rattle.yr_regex.specs.declared.bounds.Bounds.{Bounds}
 use Rattle.yr_regex.specs.Escapes.{Text, is_sign}
 use Rattle.yr_regex.specs.Classes.{goes_on}
 use Rattle.yr_regex.specs.Expressions.{Member, Single, Kind, Range, Element, Piece, Pieces, Branches, Byte, Any, Set, Class, Group, Alone, Repeated, AtStart, AtEnd, AtEdge, AtNoEdge, none, more}
 use Rattle.yr_regex.specs.Expressions as raw
-use Rattle.yr_regex.specs.Meaning.{dot_bytes}
-use Rattle.yr_regex.specs.Reading.{Outcome, and_then, or_else, mapped, is_some, sees, after, tail, expect, read_kind, read_escaped, read_set, bounds, read_close, past_digits, read_number, read_most, read_last, read_next, read_braced, read_quantifier, cut, same, capped, first_of, BytesRead, no_bytes, all_bytes, member_read, members_read, read_single, read_range, read_bytes, read_member, members_from, read_class, read_byte, read_escape, read_simple, read_edge, read_anchor, repeat_by, quantified, ends, read_element, read_piece, pieces_from, read_pieces, branches_from, read_branches, group_at, MarksRead, both, no_marks, PartRead, ListRead, plain, nothing, append, single, push, sequence, choice, repeat_part, quantified_part, class_part, byte_part, set_part, byte_at, escape_at, range_at, bytes_at, member_at, members_at, class_at, simple_at, element_at, piece_at, pieces_at, sequence_at, branches_at, expression_at, grouped_at}
+use Rattle.yr_regex.specs.Reading.{Outcome, and_then, or_else, mapped, is_some, sees, after, tail, expect, read_kind, read_escaped, read_set, bounds, read_close, past_digits, read_number, read_most, read_last, read_next, read_braced, read_quantifier, cut, same, first_of, BytesRead, no_bytes, all_bytes, member_read, members_read, read_single, read_range, read_bytes, read_member, members_from, read_class, read_byte, read_escape, read_simple, read_edge, read_anchor, repeat_by, quantified, ends, read_element, read_piece, pieces_from, read_pieces, branches_from, read_branches, group_at, MarksRead, both, no_marks, PartRead, ListRead, plain, nothing, append, single, push, sequence, choice, repeat_part, quantified_part, class_part, byte_part, set_part, byte_at, escape_at, range_at, bytes_at, member_at, members_at, class_at, simple_at, element_at, piece_at, pieces_at, sequence_at, branches_at, expression_at, grouped_at}
 use Rattle.yr_regex.proofs.NumberLemmas.{digit-small}
 use Rattle.yr_regex.proofs.Summary.{cut_bounds, element_part, piece_part, pieces_list, branches_list, branches_part}
 

@@ -1,13 +1,13 @@
 -- What is read the grammar has.
-use Rattle.std.proofs.Common.{◌≡◌, ℕ, zero, suc, ◌+◌, ◌<◌, ◌≤◌, ◌⊎◌, inl, inr, ⊎_elim, Bool, true, false, List, [], ◌∷◌, length, Option, Some, None, if◌then◌else◌, refl, sym, ap, subst, ◌∙◌, arith}
-use Rattle.std.specs.Prelude.{◌==◌, ◌||◌}
+use Rattle.std.proofs.Common.{◌≡◌, ℕ, zero, suc, ⊎_elim, Bool, true, false, [], ◌∷◌, length, Some, None, if◌then◌else◌, refl, sym, ap, subst}
+use Rattle.std.specs.Prelude.{◌==◌}
 use Rattle.std.proofs.lemmas.Bool.{eqb-true}
 use Rattle.yr_regex.specs.declared.bounds.Bounds.{Bounds}
-use Rattle.yr_regex.specs.Escapes.{Text, is_sign, kind}
+use Rattle.yr_regex.specs.Escapes.{Text, is_sign}
 use Rattle.yr_regex.specs.Quantifiers.{ReadsQuantifier, BeginsNone}
-use Rattle.yr_regex.specs.Expressions.{Member, Element, Piece, Pieces, Branches, Byte, Any, Set, Class, Group, Alone, Repeated, AtStart, AtEnd, AtEdge, AtNoEdge, none, more, only, or}
-use Rattle.yr_regex.specs.Grammar.{ReadsElement, byte, escape, any, set, class, group, ReadsPiece, alone, repeated, lazy, start, end, edge, no_edge, ReadsPieces, no_piece, piece_then, ReadsBranches, last_branch, branch_then, SpellsRegex}
-use Rattle.yr_regex.specs.Reading.{Outcome, and_then, or_else, mapped, is_some, sees, after, bounds, same, read_kind, read_escaped, read_escape, read_class, read_quantifier, read_byte, read_simple, read_edge, read_anchor, repeat_by, quantified, ends, read_element, read_piece, pieces_from, read_pieces, branches_from, read_branches, group_at}
+use Rattle.yr_regex.specs.Expressions.{Element, Piece, Pieces, Branches, Byte, Any, Set, Group, Repeated, AtStart, AtEnd, AtEdge, AtNoEdge, none, more, only, or}
+use Rattle.yr_regex.specs.Grammar.{ReadsElement, byte, escape, any, set, class, group, ReadsPiece, alone, repeated, lazy, start, end, edge, no_edge, ReadsPieces, no_piece, piece_then, ReadsBranches, last_branch, branch_then}
+use Rattle.yr_regex.specs.Reading.{Outcome, and_then, mapped, is_some, sees, after, same, read_kind, read_escaped, read_escape, read_class, read_quantifier, read_byte, read_simple, read_edge, read_anchor, repeat_by, quantified, ends, read_element, read_piece, pieces_from, read_pieces, branches_from, read_branches, group_at}
 use Rattle.yr_regex.proofs.OutcomeLemmas.{bind-some, some_is, mapped-some, or-some, chosen, guarded, unless, moved, after-true, after-false}
 use Rattle.yr_regex.proofs.NumberLemmas.{quantifier-complete, quantifier-found}
 use Rattle.yr_regex.proofs.ByteLemmas.{escape-found, kind-found}

@@ -1,9 +1,9 @@
 -- One step of reading.
-use Rattle.std.proofs.Common.{◌≡◌, ℕ, zero, suc, ◌+◌, ◌-◌, ◌<◌, ◌≤◌, Bool, true, false, List, [], ◌∷◌, length, Option, Some, None, Result, Ok, Err, if◌then◌else◌, refl, sym, ap, ◌∙◌, arith}
+use Rattle.std.proofs.Common.{◌≡◌, ℕ, suc, ◌+◌, ◌-◌, ◌<◌, ◌≤◌, Bool, true, false, Some, None, Err, if◌then◌else◌, refl, sym, ap, ◌∙◌, arith}
 use Rattle.yr_regex.specs.declared.fault.RegexFault.{RegexFault}
 use Rattle.yr_regex.specs.declared.fault.RegexFault.TheVariants.{RegexSyntax, RegexRange, MixedGreed, NoMemory}
 use Rattle.yr_regex.specs.Escapes.{Text}
-use Rattle.yr_regex.specs.Reading.{Outcome, and_then, Yields, sees, after, BytesRead, all_bytes, member_at, members_at, PartRead, ListRead, push, sequence, choice, single, ends, piece_at, pieces_at, sequence_at, branches_at, expression_at, grouped_at}
+use Rattle.yr_regex.specs.Reading.{Outcome, and_then, Yields, sees, after, BytesRead, all_bytes, member_at, members_at, PartRead, ListRead, push, sequence, choice, ends, piece_at, pieces_at, sequence_at, branches_at, expression_at, grouped_at}
 
 -- ---- a recursion on a count of turns, beside a loop that counts up
 

@@ -1,8 +1,8 @@
 -- The part that is made at once where a text says these elements.
-use Rattle.std.specs.Prelude.{ℕ, Bool, List, [], ◌∷◌, Option, Some, None}
+use Rattle.std.specs.Prelude.{Bool}
 use Rattle.yr_pattern.specs.Tree.{Start, End, Edge, NotEdge}
 use Rattle.yr_regex.specs.declared.bounds.Bounds.{Bounds}
-use Rattle.yr_regex.specs.Expressions.{Member, Element, Piece, Pieces, Branches, Byte, Any, Set, Class, Group, Alone, Repeated, AtStart, AtEnd, AtEdge, AtNoEdge, none, more, only, or}
+use Rattle.yr_regex.specs.Expressions.{Element, Piece, Pieces, Branches, Byte, Any, Set, Class, Group, Alone, Repeated, AtStart, AtEnd, AtEdge, AtNoEdge, none, more, only, or}
 use Rattle.yr_regex.specs.Meaning.{dot_bytes}
 use Rattle.yr_regex.specs.Reading.{bounds, cut, capped, members_read, PartRead, ListRead, plain, nothing, append, single, sequence, choice, repeated, class_part, byte_part, set_part}
 

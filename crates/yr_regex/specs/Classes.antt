@@ -1,5 +1,5 @@
 -- Classes of regular expressions.
-use Rattle.std.specs.Prelude.{◌≡◌, ◌≢◌, ℕ, ◌⊎◌, Bool, true, false, not, ◌&&◌, ◌==◌, List, [], ◌∷◌, length, Option, Some, None}
+use Rattle.std.specs.Prelude.{◌≡◌, ◌≢◌, ℕ, Bool, true, false, not, ◌&&◌, ◌==◌, List, [], ◌∷◌, length, Some}
 use Rattle.yr_regex.specs.Escapes.{Text, kind, ReadsEscape}
 use Rattle.yr_regex.specs.Expressions.{Member, Single, Kind, Range}
 

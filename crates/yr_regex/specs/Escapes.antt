@@ -1,5 +1,5 @@
 -- Bytes, escapes and sets of regular expressions ('Writing YARA rules', Regular expressions). Each relation says that something stands at the front of a text, and what follows it.
-use Rattle.std.specs.Prelude.{◌≡◌, ℕ, ◌+◌, ◌-◌, ◌*◌, Bool, true, false, ◌&&◌, ◌||◌, ◌==◌, nat_le, if◌then◌else◌, List, [], ◌∷◌, Option, Some, None}
+use Rattle.std.specs.Prelude.{◌≡◌, ℕ, ◌+◌, ◌-◌, ◌*◌, Bool, ◌&&◌, ◌||◌, ◌==◌, nat_le, if◌then◌else◌, List, ◌∷◌, Option, Some, None}
 use Rattle.yr_base.specs.Bytes.{is_digit}
 use Rattle.yr_pattern.specs.Set.{all_but, either, only}
 

@@ -1,5 +1,5 @@
 -- The grammar of regular expressions ('Writing YARA rules', Regular expressions). Each relation says that something stands at the front of a text, and what follows it.
-use Rattle.std.specs.Prelude.{◌≡◌, ℕ, suc, Bool, true, false, List, [], ◌∷◌, length, Option, Some, None}
+use Rattle.std.specs.Prelude.{◌≡◌, ℕ, suc, Bool, true, false, List, [], ◌∷◌, length, Option, Some}
 use Rattle.yr_regex.specs.Escapes.{Text, is_sign, kind, ReadsEscape}
 use Rattle.yr_regex.specs.Quantifiers.{ReadsQuantifier, BeginsNone}
 use Rattle.yr_regex.specs.Classes.{ReadsClass}

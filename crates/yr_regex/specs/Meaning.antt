@@ -1,5 +1,5 @@
 -- The pattern of a regular expression.
-use Rattle.std.specs.Prelude.{ℕ, Bool, true, false, if◌then◌else◌, List, [], ◌∷◌, Option, Some, None}
+use Rattle.std.specs.Prelude.{ℕ, Bool, if◌then◌else◌, List, [], ◌∷◌}
 use Rattle.yr_pattern.specs.Set.{all_but, any_byte, either, in_either_case, no_byte}
 use Rattle.yr_pattern.specs.Set as class
 use Rattle.yr_pattern.specs.Tree.{Tree, Trees, Empty, One, Seq, Alt, Rep, Start, End, Edge, NotEdge}

@@ -1,5 +1,5 @@
 -- What the reader's values stand for.
-use Rattle.std.specs.Prelude.{◌≡◌, ℕ, ◌+◌, ◌-◌, Bool, true, false, not, ◌&&◌, map, Option, Some, None, Result, Ok, Err}
+use Rattle.std.specs.Prelude.{◌≡◌, ℕ, ◌-◌, true, false, not, ◌&&◌, map, Some, None, Result, Ok, Err}
 use Rattle.yr_pattern.specs.Set.{bytes_of}
 use Rattle.yr_pattern.specs.Tree.{tree_of}
 use Rattle.yr_regex.specs.declared.fault.RegexFault.{RegexFault}

@@ -1,5 +1,5 @@
 -- Quantifiers of regular expressions.
-use Rattle.std.specs.Prelude.{◌≡◌, ℕ, ◌+◌, ◌-◌, ◌*◌, Bool, true, false, List, [], ◌∷◌, Option, Some, None}
+use Rattle.std.specs.Prelude.{◌≡◌, ℕ, ◌+◌, ◌-◌, ◌*◌, Bool, true, false, [], ◌∷◌, Option, Some, None}
 use Rattle.yr_base.specs.Bytes.{is_digit}
 use Rattle.yr_regex.specs.Escapes.{Text}
 

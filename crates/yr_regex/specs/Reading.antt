@@ -10,7 +10,7 @@ use Rattle.yr_regex.specs.Escapes.{Text, is_sign, hex_digit, escaped, kind, betw
 use Rattle.yr_regex.specs.Classes.{goes_on}
 use Rattle.yr_regex.specs.Expressions.{Member, Single, Kind, Range, Element, Piece, Pieces, Branches, Byte, Any, Set, Class, Group, Alone, Repeated, AtStart, AtEnd, AtEdge, AtNoEdge, none, more}
 use Rattle.yr_regex.specs.Expressions as raw
-use Rattle.yr_regex.specs.Meaning.{member_bytes, cased, class_bytes, dot_bytes}
+use Rattle.yr_regex.specs.Meaning.{cased, class_bytes, dot_bytes}
 
 -- ---- steps
 

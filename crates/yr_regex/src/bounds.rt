@@ -25,7 +25,9 @@ fn past_digits(first: u32, text: &[u8]) -> (u32, &[u8])
         if !b.is_ascii_digit() {
             return (number, rest);
         }
-        number = number.saturating_mul(10).saturating_add(u32::from(*b - b'0'));
+        number = number
+            .saturating_mul(10)
+            .saturating_add(u32::from(*b - b'0'));
         rest = more;
     }
     (number, rest)

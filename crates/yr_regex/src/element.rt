@@ -126,7 +126,12 @@ fn simple(text: &mut Cursor<'_>, flags: Flags, b: u8, whole: &[u8]) -> Option<Pa
 /// What a quantifier may follow, with groups that nest no deeper than `depth`.
 #[cycle(regex)]
 #[tactic(auto, unfolding(crate::specs::Reading::element_at))]
-fn element(alloc: Global, text: &mut Cursor<'_>, flags: Flags, depth: u32) -> Result<Part, RegexFault>
+fn element(
+    alloc: Global,
+    text: &mut Cursor<'_>,
+    flags: Flags,
+    depth: u32,
+) -> Result<Part, RegexFault>
     ensures { Yields part_of
         (spec.element_at flags.nocase flags.dot_all (spec.grouped_at flags.nocase flags.dot_all depth) text.old)
         result text.new }
@@ -165,7 +170,12 @@ fn piece(alloc: Global, text: &mut Cursor<'_>, flags: Flags, depth: u32) -> Resu
 /// Pieces up to the end, a `)` or a `|`.
 #[cycle(regex)]
 #[tactic(auto, unfolding(crate::specs::Reading::sequence_at))]
-fn sequence(alloc: Global, text: &mut Cursor<'_>, flags: Flags, depth: u32) -> Result<Part, RegexFault>
+fn sequence(
+    alloc: Global,
+    text: &mut Cursor<'_>,
+    flags: Flags,
+    depth: u32,
+) -> Result<Part, RegexFault>
     ensures { Yields part_of
         (spec.sequence_at flags.nocase flags.dot_all (spec.grouped_at flags.nocase flags.dot_all depth) text.old)
         result text.new }
@@ -196,7 +206,7 @@ fn branches(
 ) -> Result<Part, RegexFault>
     ensures { Yields part_of
         (spec.branches_at flags.nocase flags.dot_all (spec.grouped_at flags.nocase flags.dot_all depth)
-            count (spec.single (part_of first)) text.old)
+        count (spec.single (part_of first)) text.old)
         result text.new }
 {
     let mut branches = Parts::of(alloc, first)?;
@@ -213,7 +223,12 @@ fn branches(
 /// Branches with `|` between them, with groups that nest no deeper than `depth`.
 #[cycle(regex)]
 #[tactic(auto, unfolding(crate::specs::Reading::expression_at))]
-pub fn expression(alloc: Global, text: &mut Cursor<'_>, flags: Flags, depth: u32) -> Result<Part, RegexFault>
+pub fn expression(
+    alloc: Global,
+    text: &mut Cursor<'_>,
+    flags: Flags,
+    depth: u32,
+) -> Result<Part, RegexFault>
     ensures { Yields part_of
         (spec.expression_at flags.nocase flags.dot_all (spec.grouped_at flags.nocase flags.dot_all depth) text.old)
         result text.new }

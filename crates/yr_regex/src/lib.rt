@@ -10,6 +10,8 @@ mod fault;
 pub mod laws;
 mod part;
 mod regex;
+#[cfg(test)]
+mod tests;
 
 pub use fault::RegexFault;
 pub use regex::{Regex, read_regex};

@@ -59,7 +59,11 @@ impl Marks {
         ensures { marks_of result ≡ spec.quantifier_marks left bounds lazy }
     {
         Marks {
-            bad: if bounds.are_allowed() { None } else { Some(left) },
+            bad: if bounds.are_allowed() {
+                None
+            } else {
+                Some(left)
+            },
             lazy: !bounds.exact && lazy,
             eager: !bounds.exact && !lazy,
         }

@@ -1,4 +1,4 @@
-use Rattle.std.proofs.Common.{arith, length, true, false, suc, zero, ◌≡◌, ℕ, ◌+◌, ◌-◌, ◌<◌, ◌≤◌, Bool, Some, None, ap, sym, ◌∙◌}
+use Rattle.std.proofs.Common.{arith, ◌≡◌, ◌-◌, ap, sym, ◌∙◌}
 use Rattle.std.proofs.lemmas.Result.{err_from_is_err_and}
 use Rattle.yr_regex.specs.Parts.{part_of, parts_of}
 use Rattle.yr_regex.specs.Reading.{grouped_at, pieces_at, branches_at}
@@ -41,13 +41,13 @@ pub branches-returns-then-not-eat : goal.branches-returns-then-not-eat
 branches-returns-then-not-eat t c =
     one_more (λ n. branches_at c.args.flags.nocase c.args.flags.dot_all (grouped_at c.args.flags.nocase c.args.flags.dot_all c.args.depth) n (parts_of c.loop-turn.branches) c.loop-turn.text) _ c.loop-turn._turn c.loop-turn-test.true c.loop-turn.invariant
     ∙ branches-end c.args.flags.nocase c.args.flags.dot_all (grouped_at c.args.flags.nocase c.args.flags.dot_all c.args.depth) _ (parts_of c.loop-turn.branches) c.loop-turn.text (part_of c.in_ok-branch.branch) c.sequence.new.text c.eat.new.self (parts_of c.push.new.self) (part_of c.choice.result)
-        c.in_ok-branch.ensures c.in_ok-push.ensures c.eat.ensures.after (sym c.if-not-eat.ensures.found) c.choice.ensures
+    c.in_ok-branch.ensures c.in_ok-push.ensures c.eat.ensures.after (sym c.if-not-eat.ensures.found) c.choice.ensures
 
 pub branches-loop-turn-preserved : goal.branches-loop-turn-preserved
 branches-loop-turn-preserved t c =
     one_more (λ n. branches_at c.args.flags.nocase c.args.flags.dot_all (grouped_at c.args.flags.nocase c.args.flags.dot_all c.args.depth) n (parts_of c.loop-turn.branches) c.loop-turn.text) _ c.loop-turn._turn c.loop-turn-test.true c.loop-turn.invariant
     ∙ branches-next c.args.flags.nocase c.args.flags.dot_all (grouped_at c.args.flags.nocase c.args.flags.dot_all c.args.depth) _ (parts_of c.loop-turn.branches) c.loop-turn.text (part_of c.in_ok-branch.branch) c.sequence.new.text c.eat.new.self (parts_of c.push.new.self)
-        c.in_ok-branch.ensures c.in_ok-push.ensures c.eat.ensures.after (sym c.if-not-eat.ensures.found)
+    c.in_ok-branch.ensures c.in_ok-push.ensures c.eat.ensures.after (sym c.if-not-eat.ensures.found)
 
 pub branches-returns : goal.branches-returns
 unfolding branches_at

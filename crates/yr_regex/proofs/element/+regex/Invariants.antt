@@ -1,4 +1,4 @@
-use Rattle.std.proofs.Common.{◌≡◌, ◌+◌, ◌-◌, ◌*◌, length}
+use Rattle.std.proofs.Common.{◌≡◌, ◌+◌, ◌-◌, ◌*◌}
 use Rattle.yr_regex.specs.Parts.{part_of, parts_of}
 use Rattle.yr_regex.specs.Reading.{grouped_at, sequence_at, pieces_at, branches_at, single}
 use Rattle.yr_regex.proofs.element.+regex.Given as goal
