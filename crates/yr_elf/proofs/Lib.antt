@@ -1,0 +1,4 @@
+pub mod NameLemmas
+pub mod EntryPointLemmas
+pub mod FieldLemmas
+pub mod ModuleRowLemmas

@@ -1,0 +1,17 @@
+//! The fields of ELF files as a module of the rule language.
+#![tactic(auto)]
+
+mod elf_file;
+mod entry_point;
+mod field;
+pub mod laws;
+mod layout;
+mod module_rows;
+mod name;
+mod row;
+mod table;
+#[cfg(test)]
+mod tests;
+
+pub use elf_file::Elf;
+pub use module_rows::elf_names;

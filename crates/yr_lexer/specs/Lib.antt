@@ -1,0 +1,12 @@
+pub mod Gaps
+pub mod Texts
+pub mod Numbers
+pub mod Forms
+pub mod Faults
+pub mod Tokens
+pub mod Sources
+pub mod Includes
+pub mod Gathering
+pub mod OpenFiles
+pub mod Reading
+pub mod Candidates

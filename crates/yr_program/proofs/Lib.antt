@@ -1,0 +1,7 @@
+pub mod Pieces
+pub mod Codes
+pub mod Formed
+pub mod EmitLemmas
+pub mod WrittenLemmas
+pub mod RunLemmas
+pub mod Exact

@@ -1,0 +1,5 @@
+pub mod Acts
+pub mod Code
+pub mod Drafts
+pub mod Written
+pub mod Programs

@@ -1,0 +1,3 @@
+mod AgreeLemmas
+mod RangeLemmas
+mod SoundLemmas
