@@ -11,3 +11,4 @@ pub mod SameLemmas
 pub mod BadLemmas
 pub mod MeaningLemmas
 pub mod AnswerLemmas
+pub mod FoldLemmas

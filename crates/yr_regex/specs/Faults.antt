@@ -50,7 +50,7 @@ abbrev mutual
   HasBadBranch (only ps) left = HasBadPiece ps left
   HasBadBranch (or ps bs) left = HasBadPiece ps left ⊎ HasBadBranch bs left
 
--- the quantifiers other than `{n}` that have a `?` behind them where `lazy`, or have none where not
+-- whether a quantifier other than `{n}` stands there that is wanted, by whether a `?` follows it
 module _ (wanted : Bool → Bool) where
   abbrev mutual
     -- one stands in the element

@@ -1,5 +1,5 @@
 -- The pattern of a regular expression.
-use Rattle.std.specs.Prelude.{ℕ, Bool, if◌then◌else◌, List, [], ◌∷◌}
+use Rattle.std.specs.Prelude.{ℕ, Bool, if◌then◌else◌, List, [], ◌∷◌, false, ◌||◌}
 use Rattle.yr_pattern.specs.Set.{all_but, any_byte, either, in_either_case, no_byte}
 use Rattle.yr_pattern.specs.Set as class
 use Rattle.yr_pattern.specs.Tree.{Tree, Trees, Empty, One, Seq, Alt, Rep, Start, End, Edge, NotEdge}
@@ -72,3 +72,35 @@ module _ (nocase dot_all : Bool) where
 -- the pattern of the whole expression
 abbrev pub meaning : (nocase dot_all : Bool) → Branches → Tree
 meaning nocase dot_all bs = branches_tree nocase dot_all bs
+
+abbrev mutual
+  -- a class with `^` stands in the element
+  pub element_complement : Element → Bool
+  element_complement (Byte b) = false
+  element_complement Any = false
+  element_complement (Set bytes) = false
+  element_complement (Class negated ms) = negated
+  element_complement (Group bs) = branches_complement bs
+
+  -- one stands in the piece
+  pub piece_complement : Piece → Bool
+  piece_complement (Alone e) = element_complement e
+  piece_complement (Repeated e left least most exact lazy) = element_complement e
+  piece_complement AtStart = false
+  piece_complement AtEnd = false
+  piece_complement AtEdge = false
+  piece_complement AtNoEdge = false
+
+  -- one stands in the pieces
+  pub pieces_complement : Pieces → Bool
+  pieces_complement none = false
+  pieces_complement (more p ps) = piece_complement p || pieces_complement ps
+
+  -- one stands in the branches
+  pub branches_complement : Branches → Bool
+  branches_complement (only ps) = pieces_complement ps
+  branches_complement (or ps bs) = pieces_complement ps || branches_complement bs
+
+-- a class with `^` stands in the expression
+abbrev pub has_complement : Branches → Bool
+has_complement bs = branches_complement bs

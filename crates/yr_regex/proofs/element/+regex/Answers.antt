@@ -1,7 +1,7 @@
 use Rattle.std.proofs.Common.{arith, ◌≡◌, ◌-◌, ap, sym, ◌∙◌}
 use Rattle.std.proofs.lemmas.Result.{err_from_is_err_and}
 use Rattle.yr_regex.specs.Parts.{part_of, parts_of}
-use Rattle.yr_regex.specs.Reading.{grouped_at, pieces_at, branches_at}
+use Rattle.yr_regex.specs.Reading.{grouped_at, pieces_at, branches_at, sequence_at, single}
 use Rattle.yr_regex.proofs.StepLemmas.{one_more, no_more, deeper, fails_with, pieces-stop, pieces-none, pieces-next, pieces-last, pieces-over, branches-none, branches-end, branches-next, group-none, group-end, group-open}
 use Rattle.yr_regex.proofs.element.+regex.Goals as goal
 
@@ -35,7 +35,8 @@ pub branches-returns-in_err-branch : goal.branches-returns-in_err-branch
 branches-returns-in_err-branch t c =
     let e = one_more (λ n. branches_at c.args.flags.nocase c.args.flags.dot_all (grouped_at c.args.flags.nocase c.args.flags.dot_all c.args.depth) n (parts_of c.loop-turn.branches) c.loop-turn.text) _ c.loop-turn._turn c.loop-turn-test.true c.loop-turn.invariant in
     let p = err_from_is_err_and c.from_residual-in_err-branch.result c.from_residual-in_err-branch.ensures.1 in
-    rw (p.1, p.2) (fails_with part_of part_of _ _ _ _ _ c.in_err-branch.ensures (λ h. e ∙ branches-none c.args.flags.nocase c.args.flags.dot_all (grouped_at c.args.flags.nocase c.args.flags.dot_all c.args.depth) _ (parts_of c.loop-turn.branches) c.loop-turn.text h))
+    rw (p.1, p.2) (fails_with part_of part_of (sequence_at c.args.flags.nocase c.args.flags.dot_all (grouped_at c.args.flags.nocase c.args.flags.dot_all c.args.depth) c.loop-turn.text)
+    (branches_at c.args.flags.nocase c.args.flags.dot_all (grouped_at c.args.flags.nocase c.args.flags.dot_all c.args.depth) c.args.count (single (part_of c.args.first)) c.args.text.now) _ _ _ c.in_err-branch.ensures (λ h. e ∙ branches-none c.args.flags.nocase c.args.flags.dot_all (grouped_at c.args.flags.nocase c.args.flags.dot_all c.args.depth) _ (parts_of c.loop-turn.branches) c.loop-turn.text h))
 
 pub branches-returns-then-not-eat : goal.branches-returns-then-not-eat
 branches-returns-then-not-eat t c =
