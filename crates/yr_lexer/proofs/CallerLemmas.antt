@@ -1,5 +1,5 @@
 -- What callers of `lex` use of its tokens.
-use Rattle.std.proofs.Common.{◌≡◌, ℕ, ◌-◌, ◌<◌, ◌≤◌, Bool, true, List, [], ◌∷◌, ◌++◌, length, take, drop, Result, Ok, Err, refl, sym, ap, subst, ◌∙◌, inl, inr, arith, length-append, append_assoc}
+use Rattle.std.proofs.Common.{◌≡◌, ℕ, ◌-◌, ◌<◌, ◌≤◌, ◌^◌, Bool, true, List, [], ◌∷◌, ◌++◌, length, take, drop, Result, Ok, Err, refl, sym, ap, subst, ◌∙◌, inl, inr, arith, length-append, append_assoc}
 use Rattle.std.specs.Prelude.{All, slice_range}
 use Rattle.std.proofs.lemmas.List.Elements.{All-nil, All-cons}
 use Rattle.yr_base.specs.Words.{name_limit}
@@ -120,14 +120,15 @@ range-is whole v u w rest e f =
     let at : drop (length whole - length u) whole ≡ u = ap (λ (n : ℕ). drop n whole) from ∙ ap (λ (x : Text). drop (length v) x) e ∙ drop-front v u in
     ap (λ (n : ℕ). take n (drop (length whole - length u) whole)) count ∙ ap (λ (x : Text). take (length w) x) (at ∙ f) ∙ take-front w rest
 
-token-lies : (whole u rest : Text) (a : Bool) (k : TokenKind) → HasFront whole u → IsToken a u k rest → LiesIn whole (token_at whole k u rest)
-token-lies whole u rest a k f i =
+token-lies : (whole u rest : Text) (a : Bool) (k : TokenKind) → length whole < 2 ^ 32 → HasFront whole u → IsToken a u k rest → LiesIn whole (token_at whole k u rest)
+token-lies whole u rest a k few f i =
     let g = i.longest.fits in
     let l = ap (λ (x : Text). length x) f.1 ∙ length-append f.0 u in
     let m = ap (λ (x : Text). length x) g.whole ∙ length-append g.bytes rest in
     record {
       ordered = omega arith;
       within = omega arith;
+      small = omega arith;
       spelled = subst (λ (w : Text). IsSpelled w k) (sym (range-is whole f.0 u g.bytes rest f.1 g.whole)) (record {
         form = form-any a g.bytes k g.form;
         escapes = good-escapes a g.bytes u rest k g.whole g.form (i.no_fault row.BadEscape);
@@ -143,15 +144,15 @@ lie-next : (whole : Text) (x : Token) (a : Answer) → LiesIn whole x → LieIn 
 lie-next whole x (Ok xs) h l = All-cons (LiesIn whole) x xs h l
 lie-next whole x (Err f) h l = tt
 
-lie-from : {whole : Text} {e : Bool} {t : Text} {a : Answer} → LexesFrom whole e t a → HasFront whole t → LieIn whole a
-lie-from {whole = whole} (nothing g) f = All-nil (LiesIn whole)
-lie-from (refused g n p) f = tt
-lie-from {whole = whole} (token {after_equals = e} {t = t} {u = u} {rest = r} {k = k} {answer = a} g n i l) f =
+lie-from : {whole : Text} {e : Bool} {t : Text} {a : Answer} → LexesFrom whole e t a → length whole < 2 ^ 32 → HasFront whole t → LieIn whole a
+lie-from {whole = whole} (nothing g) few f = All-nil (LiesIn whole)
+lie-from (refused g n p) few f = tt
+lie-from {whole = whole} (token {after_equals = e} {t = t} {u = u} {rest = r} {k = k} {answer = a} g n i l) few f =
     let h = front-trans whole t u f (Gap-front g) in
     let m = i.longest.fits in
     let o = front-trans whole u r h (m.bytes, m.whole) in
-    lie-next whole (token_at whole k u r) a (token-lies whole u r e k h i) (lie-from l o)
+    lie-next whole (token_at whole k u r) a (token-lies whole u r e k few h i) (lie-from l few o)
 
 -- each token lies in the text, with the form of its kind there
-pub lexes-lie : (text : Text) (tokens : List Token) → Lexes text (Ok tokens) → All (LiesIn text) tokens
-lexes-lie text tokens l = lie-from l ([], refl)
+pub lexes-lie : (text : Text) (tokens : List Token) → length text < 2 ^ 32 → Lexes text (Ok tokens) → All (LiesIn text) tokens
+lexes-lie text tokens few l = lie-from l few ([], refl)

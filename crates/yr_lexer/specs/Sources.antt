@@ -1,5 +1,5 @@
 -- Files that were read, and the tokens in them.
-use Rattle.std.specs.Prelude.{ℕ, ◌≤◌, ◌<◌, List, [], length, string_bytes, slice_range, slice_get, Option, Some, None}
+use Rattle.std.specs.Prelude.{ℕ, ◌≤◌, ◌<◌, ◌^◌, List, [], length, string_bytes, slice_range, slice_get, Option, Some, None}
 use Rattle.yr_lexer.specs.declared.token.Token.{Token}
 use Rattle.yr_lexer.specs.declared.source.SourceFile.{SourceFile}
 use Rattle.yr_lexer.specs.declared.source.FileToken.{FileToken}
@@ -43,6 +43,7 @@ text_of g k = text_from (slice_get g.tokens k)
 pub record LiesIn (text : Text) (t : Token) : Type 0 where
   pub ordered : t.from ≤ t.to
   pub within : t.to ≤ length text
+  pub small : t.to < 2 ^ 32
   pub spelled : IsSpelled (slice_range text t.from t.to) t.kind
 
 -- a token that lies in its file

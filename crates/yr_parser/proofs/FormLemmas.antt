@@ -2,7 +2,7 @@
 use Rattle.std.proofs.Common.{◌≡◌, ℕ, Bool, true, false, List, refl}
 use Rattle.yr_syntax.specs.Condition.{Condition, Where, Asked, Domain, SetTree, ItemTree, OneLink, OneStep, links_of, items_of, steps_of}
 use Rattle.yr_syntax.specs.Declaration.{ModifierTree, BodyTree, StringTree, ValueTree, MetaTree, RuleTree, Declaration}
-use Rattle.yr_syntax.specs.Forms.{Each, IsWordName, IsStringItem, IsRuleItem, SetHasForms, HasForms, LinksHaveForms, StepsHaveForms, ItemsHaveForms, PlaceHasForms, AskedHasForms, DomainHasForms, StringHasForms, MetaHasForms, RuleHasForms, DeclarationHasForms, HaveForms}
+use Rattle.yr_syntax.specs.Forms.{Each, IsWordName, IsStringItem, IsRuleItem, SetHasForms, HasForms, LinksHaveForms, StepsHaveForms, ItemsHaveForms, PlaceHasForms, AskedHasForms, DomainHasForms, BodyHasForms, StringHasForms, MetaHasForms, RuleHasForms, DeclarationHasForms, HaveForms}
 use Rattle.yr_parser.specs.declared.level.Level.{Level}
 use Rattle.yr_parser.specs.Terminals.{Terminals}
 use Rattle.yr_parser.specs.Levels.{Part}
@@ -39,7 +39,7 @@ mutual
   Reads-forms (one x0) g = let h0 = Reads-forms x0 g in (h0.0, h0.1)
   Reads-forms (chain e0 x1 x2) g = let h1 = Reads-forms x1 g in let h2 = Links-forms x2 h1.1 in ((h1.0, h2.0), h2.1)
   Reads-forms (pair e0 x1 e2 x3) g = let h1 = Reads-forms x1 g in let h3 = Reads-forms x3 h1.1.1 in ((h1.0, (h3.0, tt)), h3.1)
-  Reads-forms (matches x0) g = let h0 = Reads-forms x0 g in (h0.0, h0.1.1.1)
+  Reads-forms (matches x0) g = let h0 = Reads-forms x0 g in ((h0.0, h0.1.1.0), h0.1.1.1)
   Reads-forms (negated x0) g = let h0 = Reads-forms x0 g.1 in (h0.0, h0.1)
   Reads-forms (is_defined x0) g = let h0 = Reads-forms x0 g.1 in (h0.0, h0.1)
   Reads-forms (plain x0) g = let h0 = Reads-forms x0 g in (h0.0, h0.1)
@@ -135,10 +135,10 @@ Modifiers-forms : {k rest : Terminals} {v : List ModifierTree} → Modifiers k v
 Modifiers-forms no_modifier g = (tt, g)
 Modifiers-forms (modifier_then x0 x1) g = let h0 = OneModifier-forms x0 g in let h1 = Modifiers-forms x1 h0.1 in (tt, h1.1)
 
-Bodies-forms : {k rest : Terminals} {v : BodyTree} → Bodies k v rest → AreGood k → (Unit {0}) × AreGood rest
+Bodies-forms : {k rest : Terminals} {v : BodyTree} → Bodies k v rest → AreGood k → (BodyHasForms v) × AreGood rest
 Bodies-forms declarations.text g = (tt, g.1)
-Bodies-forms regex g = (tt, g.1)
-Bodies-forms hex g = (tt, g.1)
+Bodies-forms regex g = let n0 = g.0 in (n0, g.1)
+Bodies-forms hex g = let n0 = g.0 in (n0, g.1)
 
 Words-forms : {k rest : Terminals} {v : List (List ℕ)} → Words k v rest → AreGood k → (Each IsWordName v) × AreGood rest
 Words-forms one_word g = let n0 = g.0 in ((n0, tt), g.1)
@@ -156,7 +156,7 @@ Flags-forms global_private g = (tt, g.1.1)
 Flags-forms private_global g = (tt, g.1.1)
 
 OneString-forms : {places : Places} {k rest : Terminals} {v : StringTree} → OneString places k v rest → AreGood k → (StringHasForms v) × AreGood rest
-OneString-forms (string x0 x1) g = let n0 = g.0 in let h0 = Bodies-forms x0 g.1.1 in let h1 = Modifiers-forms x1 h0.1 in (n0, h1.1)
+OneString-forms (string x0 x1) g = let n0 = g.0 in let h0 = Bodies-forms x0 g.1.1 in let h1 = Modifiers-forms x1 h0.1 in ((n0, h0.0), h1.1)
 
 Strings-forms : {places : Places} {k rest : Terminals} {v : List StringTree} → Strings places k v rest → AreGood k → (Each StringHasForms v) × AreGood rest
 Strings-forms (declarations.one_string x0) g = let h0 = OneString-forms x0 g in ((h0.0, tt), h0.1)

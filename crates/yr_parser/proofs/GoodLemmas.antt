@@ -1,16 +1,17 @@
 -- Gathered tokens are good terminals.
-use Rattle.std.proofs.Common.{◌≡◌, ℕ, zero, suc, ◌-◌, ◌≤◌, true, List, [], ◌∷◌, ◌++◌, length, drop, take, map, refl, sym, ap, subst, ◌∙◌, arith, length-append}
-use Rattle.std.specs.Prelude.{All}
+use Rattle.std.proofs.Common.{◌≡◌, ℕ, zero, suc, ◌-◌, ◌+◌, ◌≤◌, ◌<◌, ◌^◌, true, List, [], ◌∷◌, ◌++◌, length, drop, take, map, refl, sym, ap, subst, ◌∙◌, arith, length-append}
+use Rattle.std.specs.Prelude.{All, slice_range}
+use Rattle.std.proofs.lemmas.List.{length-drop, length-take}
 use Rattle.yr_base.specs.Bytes.{is_word_byte}
 use Rattle.yr_lexer.specs.declared.token.TokenKind.{TokenKind}
 use Rattle.yr_lexer.specs.declared.token.TokenKind.TheVariants as kind
 use Rattle.yr_lexer.specs.declared.source.FileToken.{FileToken}
 use Rattle.yr_lexer.specs.Sources.{File, Gathered, spelling, LiesInFile}
 use Rattle.yr_lexer.specs.Forms.{IsSpelled}
-use Rattle.yr_syntax.specs.Forms.{Each, IsName}
+use Rattle.yr_syntax.specs.Forms.{Each, IsName, IsShortText}
 use Rattle.yr_parser.specs.Terminals.{Terminal, Read, Flag, Operator, Sign}
 use Rattle.yr_parser.specs.Good.{IsGood, AreGood}
-use Rattle.yr_parser.specs.Spelling.{words, signs, lookup, known, inside, spelled, terminal_of, terminals_of}
+use Rattle.yr_parser.specs.Spelling.{words, signs, lookup, known, inside, flag_length, spelled, terminal_of, terminals_of}
 use Rattle.yr_parser.proofs.TokenLemmas.{is_fixed, known-fixed, words-fixed, signs-fixed, inside-quoted}
 
 fixed-good : (t : Terminal) → is_fixed t ≡ true → IsGood t
@@ -47,22 +48,33 @@ wild-good w name e a h =
     let more = length-append name (42 ∷ []) in
     subst IsName (sym same) (all-each (λ c. is_word_byte c ≡ true) name a, omega arith)
 
-spelled-good : (w : List ℕ) (k : TokenKind) → IsSpelled w k → IsGood (spelled w k)
-spelled-good w kind.Word s = (s.form.0, s.form.1, s.short)
-spelled-good w kind.Reserved s = fixed-good (known (lookup w words)) (known-fixed w words words-fixed)
-spelled-good w kind.StringName s = named-good 36 w s.form.0 s.form.1 s.form.2 s.short
-spelled-good w kind.StringWild s = wild-good w s.form.0 s.form.1 s.form.2 s.short
-spelled-good w kind.CountName s = named-good 35 w s.form.0 s.form.1 s.form.2 s.short
-spelled-good w kind.PlaceName s = named-good 64 w s.form.0 s.form.1 s.form.2 s.short
-spelled-good w kind.LengthName s = named-good 33 w s.form.0 s.form.1 s.form.2 s.short
-spelled-good w kind.Sign s = fixed-good (known (lookup w signs)) (known-fixed w signs signs-fixed)
-spelled-good w _ s = tt
+inside-short : (ends : ℕ) (w : List ℕ) → IsShortText w → IsShortText (inside ends w)
+inside-short ends w h =
+    let d = length-drop 1 (take (length w - ends) w) in
+    let t = length-take (length w - ends) w in
+    omega arith
+
+range-short : (text : List ℕ) (from to : ℕ) → to < 2 ^ 32 → IsShortText (slice_range text from to)
+range-short text from to h = let t = length-take (to - from) (drop from text) in omega arith
+
+spelled-good : (w : List ℕ) (k : TokenKind) → IsSpelled w k → IsShortText w → IsGood (spelled w k)
+spelled-good w kind.Word s h = (s.form.0, s.form.1, s.short)
+spelled-good w kind.Reserved s h = fixed-good (known (lookup w words)) (known-fixed w words words-fixed)
+spelled-good w kind.StringName s h = named-good 36 w s.form.0 s.form.1 s.form.2 s.short
+spelled-good w kind.StringWild s h = wild-good w s.form.0 s.form.1 s.form.2 s.short
+spelled-good w kind.CountName s h = named-good 35 w s.form.0 s.form.1 s.form.2 s.short
+spelled-good w kind.PlaceName s h = named-good 64 w s.form.0 s.form.1 s.form.2 s.short
+spelled-good w kind.LengthName s h = named-good 33 w s.form.0 s.form.1 s.form.2 s.short
+spelled-good w kind.Sign s h = fixed-good (known (lookup w signs)) (known-fixed w signs signs-fixed)
+spelled-good w (kind.Regex nocase dot_all) s h = inside-short (1 + flag_length nocase dot_all) w h
+spelled-good w kind.Hex s h = inside-short 1 w h
+spelled-good w _ s h = tt
 
 files-good : (files : List File) (ts : List FileToken) → All (LiesInFile files) ts → AreGood (map (terminal_of files) ts)
 files-good files [] h = tt
 files-good files (t ∷ ts) h =
     let lies = h zero t (omega arith) in
-    (spelled-good (spelling files t) t.token.kind lies.lies.spelled, files-good files ts (λ k d lt. h (suc k) d (omega arith)))
+    (spelled-good (spelling files t) t.token.kind lies.lies.spelled (range-short _ t.token.from t.token.to lies.lies.small), files-good files ts (λ k d lt. h (suc k) d (omega arith)))
 
 pub gathered-good : (g : Gathered) → All (LiesInFile g.files) g.tokens → AreGood (terminals_of g)
 gathered-good g h = files-good g.files g.tokens h

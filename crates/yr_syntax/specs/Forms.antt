@@ -1,10 +1,10 @@
--- What is kept of trees that are read from a rule file: the forms of names, and the height of conditions.
-use Rattle.std.specs.Prelude.{◌≡◌, ℕ, ◌≤◌, true, List, [], ◌∷◌, length}
+-- What is kept of trees that are read from a rule file: the forms of names, the lengths of hex strings and expressions, and the height of conditions.
+use Rattle.std.specs.Prelude.{◌≡◌, ℕ, ◌≤◌, ◌<◌, ◌^◌, true, List, [], ◌∷◌, length}
 use Rattle.yr_base.specs.Bytes.{is_word_byte}
 use Rattle.yr_base.specs.Words.{IsReserved, IsWord, name_limit}
 use Rattle.yr_syntax.specs.Condition.{Condition, Links, Steps, Items, Where, Asked, Domain, SetTree, ItemTree, Number, Text, Flag, FileSize, Path, Found, Count, CountIn, Offset, OffsetAt, Length, LengthAt, Read, Prefix, Chain, Matches, Of, ForOf, ForIn, no_link, link, no_step, name_step, index_step, call_step, no_item, item, Anywhere, At, Within, All, Any, Nil, AtLeast, Percent, OverRange, OverList, OverPath, Them, Strings, Rules}
 use Rattle.yr_syntax.specs.Height.{height}
-use Rattle.yr_syntax.specs.Declaration.{StringTree, MetaTree, RuleTree, Declaration}
+use Rattle.yr_syntax.specs.Declaration.{BodyTree, StringTree, MetaTree, RuleTree, Declaration}
 use Rattle.yr_syntax.specs.Declaration as declaration
 
 -- each item of a list has the property
@@ -19,6 +19,10 @@ IsWordName w = IsWord w × (¬ IsReserved w) × (length w ≤ name_limit)
 -- letters, digits and `_`, possibly none, and not too many
 abbrev pub IsName : List ℕ → Type 0
 IsName w = Each (λ b. is_word_byte b ≡ true) w × (length w ≤ name_limit)
+
+-- a hex string or an expression whose places are numbers of 32 bits
+abbrev pub IsShortText : List ℕ → Type 0
+IsShortText t = length t < 2 ^ 32
 
 -- an item of a set of strings, and of a set of rules
 abbrev pub IsStringItem : ItemTree → Type 0
@@ -49,7 +53,7 @@ abbrev mutual
   HasForms (Read reader at) = HasForms at
   HasForms (Prefix op inner) = HasForms inner
   HasForms (Chain first rest) = HasForms first × LinksHaveForms rest
-  HasForms (Matches text regex) = HasForms text
+  HasForms (Matches text regex) = HasForms text × IsShortText regex.text
   HasForms (Of asked set place) = AskedHasForms asked × SetHasForms set × PlaceHasForms place
   HasForms (ForOf asked set body) = AskedHasForms asked × SetHasForms set × HasForms body
   HasForms (ForIn asked name domain body) = AskedHasForms asked × IsWordName name × DomainHasForms domain × HasForms body
@@ -85,8 +89,13 @@ abbrev mutual
   DomainHasForms (OverList items) = ItemsHaveForms items
   DomainHasForms (OverPath steps) = StepsHaveForms steps
 
+abbrev pub BodyHasForms : BodyTree → Type 0
+BodyHasForms (declaration.Text t) = Unit {0}
+BodyHasForms (declaration.Hex t) = IsShortText t
+BodyHasForms (declaration.Regex r) = IsShortText r.text
+
 abbrev pub StringHasForms : StringTree → Type 0
-StringHasForms s = IsName s.name
+StringHasForms s = IsName s.name × BodyHasForms s.body
 
 abbrev pub MetaHasForms : MetaTree → Type 0
 MetaHasForms m = IsWordName m.key

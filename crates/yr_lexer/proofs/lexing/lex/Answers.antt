@@ -30,4 +30,4 @@ pub returns-clause-few : goal.returns-clause-few
 returns-clause-few c = lexes-few _ _ (is-whole _ _ _ _ _ _ c.tokens.invariant c.is_empty.ensures c.tokens-test.false)
 
 pub returns-clause-lies : goal.returns-clause-lies
-returns-clause-lies c = lexes-lie _ _ (is-whole _ _ _ _ _ _ c.tokens.invariant c.is_empty.ensures c.tokens-test.false)
+returns-clause-lies c = lexes-lie _ _ (omega (arith, c.requires)) (is-whole _ _ _ _ _ _ c.tokens.invariant c.is_empty.ensures c.tokens-test.false)

@@ -1,0 +1,14 @@
+pub mod Basics
+pub mod StepLemmas
+pub mod OutcomeLemmas
+pub mod NumberLemmas
+pub mod ByteLemmas
+pub mod ClassLemmas
+pub mod Complete
+pub mod Sound
+pub mod Summary
+pub mod SameLemmas
+pub mod BadLemmas
+pub mod MeaningLemmas
+pub mod AnswerLemmas
+pub mod FoldLemmas
