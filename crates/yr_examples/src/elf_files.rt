@@ -37,10 +37,6 @@ const SEGMENT_COUNT: u16 = 5;
 
 const SECTION_NAME: u16 = 16;
 
-const SECTION_OFFSET: u16 = 20;
-
-const SECTION_SIZE: u16 = 21;
-
 const SEGMENT_TYPE: u16 = 32;
 
 /// The bytes of a file, none where it can't be read or is too long.
@@ -68,9 +64,19 @@ fn is_undefined(elf: &Elf, id: u16, index: i64) -> bool {
 }
 
 /// The two bytes at a place, the lowest first.
-fn half(file: &[u8], at: usize) -> Option<i64> {
+fn half(file: &[u8], at: usize) -> Option<u16> {
     match file.get(at..)? {
-        [low, high, ..] => Some(u16::from_le_bytes([*low, *high]) as i64),
+        [low, high, ..] => Some(u16::from_le_bytes([*low, *high])),
+        _ => None,
+    }
+}
+
+/// The eight bytes at a place, the lowest first.
+fn whole(file: &[u8], at: u64) -> Option<u64> {
+    match file.get(at as usize..)? {
+        [a, b, c, d, e, f, g, h, ..] => {
+            Some(u64::from_le_bytes([*a, *b, *c, *d, *e, *f, *g, *h]))
+        }
         _ => None,
     }
 }
@@ -86,7 +92,7 @@ fn is_wide(file: &[u8]) -> bool {
 /// Whether a field of the ELF header is there and, in a file of 64 bits, is the number at this place.
 fn header_agrees(elf: &Elf, file: &[u8], id: u16, at: usize) -> bool {
     let given = number(elf, id, 0);
-    given.is_some() && (!is_wide(file) || given == half(file, at))
+    given.is_some() && (!is_wide(file) || given == half(file, at).map(|n| n as i64))
 }
 
 /// Whether type, machine and the numbers of segments and sections are those of the header, and the type is that of
@@ -120,22 +126,23 @@ fn entry_point_agrees(elf: &Elf, file: &[u8]) -> bool {
     }
 }
 
+/// Where a file of 64 bits says that the section with the names of the sections ends, if this section is not empty.
+fn end_of_names(file: &[u8]) -> Option<u64> {
+    let before = 64 * half(file, 62)? as u64;
+    let header = whole(file, 40)?.checked_add(before)?;
+    let offset = whole(file, header.checked_add(24)?)?;
+    let size = whole(file, header.checked_add(32)?)?;
+    if size == 0 {
+        return None;
+    }
+    offset.checked_add(size)
+}
+
 /// Whether a file of 64 bits has the section with the names of the sections, and this lies in the file.
-fn has_names(elf: &Elf, file: &[u8]) -> bool {
-    let Some(names) = half(file, 62) else {
-        return false;
-    };
-    match (
-        number(elf, SECTION_OFFSET, names),
-        number(elf, SECTION_SIZE, names),
-    ) {
-        (Some(offset), Some(size)) => {
-            is_wide(file)
-                && 0 <= offset
-                && 0 < size
-                && offset as u128 + size as u128 <= file.len() as u128
-        }
-        _ => false,
+fn has_names(file: &[u8]) -> bool {
+    match end_of_names(file) {
+        Some(end) => is_wide(file) && end <= file.len() as u64,
+        None => false,
     }
 }
 
@@ -157,7 +164,7 @@ fn names_agree(elf: &Elf, file: &[u8]) -> bool {
     };
     is_undefined(elf, SECTION_NAME, -1)
         && is_undefined(elf, SECTION_NAME, count)
-        && (!has_names(elf, file) || names_are_there(elf, count))
+        && (!has_names(file) || names_are_there(elf, count))
 }
 
 /// Whether each segment below a count has a type.
