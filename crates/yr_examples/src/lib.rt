@@ -2,4 +2,6 @@
 #![tactic(auto)]
 
 #[cfg(test)]
+mod elf_files;
+#[cfg(test)]
 mod encoding;
