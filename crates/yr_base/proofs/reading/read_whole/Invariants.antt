@@ -1,12 +1,14 @@
 use Rattle.std.proofs.Common.{◌≡◌, ◌+◌, ◌-◌, ◌≤◌, vec_len}
-use Rattle.yr_base.proofs.disk_store.DiskStoreStore.read_file.Given as goal
+use Rattle.std.specs.Io.KnownBytes.{Consumes}
+use Rattle.yr_base.proofs.reading.read_whole.Given as goal
 
--- no more is read than there is room
+-- no more is read than there is room, and all of it came from the reader
 abbrev pub invariant-loop-buffer : goal.invariant-loop-buffer
 invariant-loop-buffer g l = record {
   within : vec_len l.into ≤ l.limit + 1;
   room : l.room ≡ l.limit + 1;
-  faults : l.self.fault_count ≡ l.fn.self.fault_count;
+  faults : l.faults ≡ l.fn.faults;
+  given : Consumes (g.R.Read.remaining l.fn.reader) (g.R.Read.remaining l.reader) l.into.items;
 }
 
 abbrev pub decreases-loop-buffer : goal.decreases-loop-buffer
