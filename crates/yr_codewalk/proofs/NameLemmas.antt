@@ -30,6 +30,7 @@ loop_at-place [] c = refl
 loop_at-place (s ∷ loops) c =
     ap (λ o. cond (c == length loops) (Some s) o) (loop_at-place loops c)
     ∙ ap (λ n. cond (c == n) (Some s) (slice_get (reverse loops) c)) (sym (length-reverse loops)) ∙ sym (get_more (reverse loops) s c)
+    ∙ ap (λ l. slice_get l c) (sym (reverse-append (s ∷ []) loops))
 
 back : {A : Type 0} → (xs : List A) → reverse (reverse xs) ≡ xs
 back [] = refl

@@ -1,6 +1,12 @@
 -- Steps of the walk.
-use Rattle.std.proofs.Common.{◌≡◌, ℕ, zero, suc, ◌+◌, ◌-◌, ◌<◌, ◌≤◌, List, [], ◌∷◌, length, take, drop, Option, Some, None, refl, sym, ap, ◌∙◌, arith, Bool, true, false, ◌&&◌, cond, inl, inr, length-drop, get_or}
-use Rattle.std.specs.Prelude.{slice_get, ◌==◌}
+use Rattle.std.proofs.Common.{◌≡◌, ℕ, zero, suc, ◌+◌, ◌-◌, ◌<◌, ◌≤◌, List, [], ◌∷◌, length, take, drop, Option, Some, None, refl, sym, ap, ◌∙◌, arith, Bool, true, false, not, ◌&&◌, cond, inl, inr, length-drop, get_or}
+use Rattle.std.specs.Prelude.{slice_get, ◌==◌, nat_le}
+use Rattle.yr_values.specs.Comparisons.{flag_eq}
+use Rattle.yr_image.specs.declared.instruction.Instruction.{Instruction}
+use Rattle.yr_machine.specs.declared.block.Opener.TheVariants.{Skip, Loop}
+use Rattle.yr_machine.specs.Roles.{Role, role}
+use Rattle.yr_machine.specs.Named.{names_there}
+use Rattle.std.proofs.Math.Bool.{beq}
 use Rattle.std.proofs.lemmas.Bool.{eq-eqb}
 use Rattle.std.proofs.lemmas.Bool.Decides.{eqb_tells, leb_tells}
 use Rattle.std.proofs.lemmas.Option.{get_or_from_slice_get, slice_get_within}
@@ -11,7 +17,7 @@ use Rattle.yr_image.specs.declared.rows.CodeRow.{CodeRow}
 use Rattle.yr_image.specs.Image.{Image}
 use Rattle.yr_machine.specs.declared.block.Want.{Want}
 use Rattle.yr_machine.specs.declared.block.Block.{Block}
-use Rattle.yr_machine.specs.CodeWalk.{take_kinds, is_wanted, Verdict, goes_on, fails, close, is_skip, is_answer, is_empty, fault_from, and_then, by_row, open_loops}
+use Rattle.yr_machine.specs.CodeWalk.{take_kinds, is_wanted, Verdict, goes_on, fails, close, is_skip, is_answer, is_empty, fault_from, and_then, by_row, by_role, by_instruction, is_ending, open_loops, above, taken, floor_of, opened, looping}
 use Rattle.yr_codewalk.specs.Stacks.{down_to}
 
 pub down_height : {A : Type 0} → (h : ℕ) (xs : List A) → h ≤ length xs → length (down_to h xs) ≡ h
@@ -90,3 +96,51 @@ pub fault_by : (image : Image) (rule : ℕ) (rows : List CodeRow) (i : ℕ) (ks 
     fault_from image rule rows (drop i rows) i ks bs ≡ all → and_then i vd (fault_from image rule rows (drop (i + 1) rows) (i + 1)) ≡ all
 fault_by image rule rows i ks bs r vd all at e h =
     ap (λ x. and_then i x (fault_from image rule rows (drop (i + 1) rows) (i + 1))) e ∙ sym (fault_step image rule rows i ks bs r at) ∙ h
+
+-- the walk past the last row
+pub fault_end : (image : Image) (rule : ℕ) (rows : List CodeRow) (i : ℕ) (ks : List Kind) (bs : List Block) (all : Option ℕ) → length rows ≤ i →
+    fault_from image rule rows (drop i rows) i ks bs ≡ all → Some i ≡ all
+fault_end image rule rows i ks bs all le h = sym (ap (λ l. fault_from image rule rows l i ks bs) (drop_of_length-le rows le)) ∙ h
+
+above_parts : (floor : ℕ) (o : Option (List Kind)) (rest : List Kind) → above floor o ≡ Some rest → o ≡ Some rest
+above_parts floor None rest e = cc
+above_parts floor (Some kinds) rest e =
+    by_test (nat_le floor (length kinds)) (Some kinds ≡ Some rest)
+    (λ t. ap (λ b. cond b (Some kinds) None) (sym t) ∙ e)
+    (λ t. let bad : None ≡ Some rest = ap (λ b. cond b (Some kinds) None) (sym t) ∙ e in cc)
+
+-- a loop that keeps its values
+pub kept_opened : (fits keeps strings : Bool) (wants : List Want) (place end height all : ℕ) (kinds : List Kind) (blocks : List Block) →
+    fits ≡ true → keeps ≡ true → taken wants kinds blocks ≡ Some (down_to height kinds) → height ≤ length kinds → all ≡ length kinds →
+    opened (Loop place strings (all - height)) end (down_to all kinds) blocks ≡ looping fits keeps strings wants place end kinds (taken wants kinds blocks) blocks
+kept_opened fits keeps strings wants place end height all kinds blocks f k t le e =
+    let rest = down_to height kinds in
+    let count = take_count wants kinds rest (above_parts (floor_of blocks) (take_kinds wants kinds) rest t) in
+    let kept : all - height ≡ length wants = omega (arith, count, down_height height kinds le, le, e) in
+    let none : length kinds - all ≡ 0 = omega (arith, e) in
+    ap (λ n. opened (Loop place strings n) end (down_to all kinds) blocks) kept
+    ∙ ap (λ n. opened (Loop place strings (length wants)) end (drop n kinds) blocks) none
+    ∙ ap (λ o. looping true true strings wants place end kinds o blocks) (sym t)
+    ∙ ap (λ b. looping true b strings wants place end kinds (taken wants kinds blocks) blocks) (sym k)
+    ∙ ap (λ b. looping b keeps strings wants place end kinds (taken wants kinds blocks) blocks) (sym f)
+
+flag_same : (b : Bool) → flag_eq b b ≡ true
+flag_same true = refl
+flag_same false = refl
+
+-- an instruction that stands where it may, and names what is there
+pub instruction_goes : (image : Image) (rule : ℕ) (rows : List CodeRow) (i : Instruction) (last : Bool) (r : Role) (place : ℕ) (ks : List Kind) (bs : List Block)
+    (loops : List Bool) → r ≡ role image i → is_ending r ≡ last → loops ≡ open_loops bs → names_there image rule loops i ≡ true →
+    by_role image rule rows r place ks bs ≡ by_instruction image rule rows (Some i) last place ks bs
+instruction_goes image rule rows i last r place ks bs loops e ends agree names =
+    let flag : flag_eq (is_ending (role image i)) last ≡ true =
+    ap (λ x. flag_eq (is_ending x) last) (sym e) ∙ ap (λ b. flag_eq b last) ends ∙ flag_same last in
+    let test : (flag_eq (is_ending (role image i)) last && names_there image rule (open_loops bs) i) ≡ true =
+    ap (λ b. b && names_there image rule (open_loops bs) i) flag ∙ ap (λ l. names_there image rule l i) (sym agree) ∙ names in
+    ap (λ x. by_role image rule rows x place ks bs) e ∙ sym (ap (λ b. cond b (by_role image rule rows (role image i) place ks bs) fails) test)
+
+pub same_flags : (a b : Bool) → not (beq a b) ≡ false → a ≡ b
+same_flags true true e = refl
+same_flags true false e = cc
+same_flags false true e = cc
+same_flags false false e = refl

@@ -12,12 +12,13 @@ pub fn code_fault(walk: &mut Walk, code: &Code) -> Option<u32>
     ensures { result ≡ code_fault (image_shown code.now) code.now.rule (rows_shown code.now) }
 {
     walk.clear();
-    for place in 0..code.rows {
-        match walk.pass(code, place, place + 1 == code.rows, &code.row(place)) {
+    let count = code.count();
+    for place in 0..count {
+        match walk.pass(code, place, place + 1 == count, &code.row(place)) {
             Pass::Fails => return Some(place),
             Pass::Finished => return None,
             Pass::GoesOn => {}
         }
     }
-    Some(code.rows)
+    Some(count)
 }

@@ -44,9 +44,16 @@ impl<'a> Code<'a> {
         }
     }
 
+    /// How many rows there are.
+    pub fn count(&self) -> u32
+        ensures { result ≡ length (rows_shown self.now) }
+    {
+        self.rows
+    }
+
     /// The row at a place.
     pub fn row(&self, place: u32) -> CodeRow
-        requires { place < self.now.rows }
+        requires { place < length (rows_shown self.now) }
         ensures { slice_get (rows_shown self.now) place ≡ Some result }
     {
         self.view.code(self.first + place)
@@ -56,7 +63,7 @@ impl<'a> Code<'a> {
     pub fn get(&self, place: u32) -> Option<CodeRow>
         ensures { result ≡ slice_get (rows_shown self.now) place }
     {
-        if place < self.rows {
+        if place < self.count() {
             Some(self.row(place))
         } else {
             None

@@ -352,7 +352,7 @@ impl Walk {
         match effect {
             Effect::Ends => self.end(),
             Effect::Gives(wants, kind) => self.give(wants, kind),
-            Effect::Skips(end) => self.skip(code.rows, place, end),
+            Effect::Skips(end) => self.skip(code.count(), place, end),
             Effect::Starts {
                 wants,
                 keeps,
