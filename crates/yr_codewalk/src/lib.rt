@@ -11,4 +11,5 @@ mod walk;
 
 pub use checking::code_fault;
 pub use code::Code;
+pub use naming::in_pool;
 pub use walk::Walk;

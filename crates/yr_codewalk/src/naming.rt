@@ -13,8 +13,8 @@ use crate::effect::{call, field};
 use crate::stacks::Loops;
 use yr_image::{ImageView, Instruction, NamedString, OfForm};
 
-// Whether the range lies in the pool.
-fn in_pool(view: &ImageView, place: u32, length: u64) -> bool
+/// Whether a range lies in the pool.
+pub fn in_pool(view: &ImageView, place: u64, length: u64) -> bool
     ensures { result ≡ in_pool (image_of view.now) place length }
 {
     u128::from(place) + u128::from(length) <= u128::from(count_pool(view))
@@ -92,7 +92,7 @@ pub fn names_there(view: &ImageView, rule: u32, loops: &Loops, instruction: Inst
     ensures { result ≡ names_there (image_of view.now) rule loops.now instruction }
 {
     match instruction {
-        Instruction::Text { place, length } => in_pool(view, place, length),
+        Instruction::Text { place, length } => in_pool(view, u64::from(place), length),
         Instruction::External(c) => c < count_externals(view),
         Instruction::Rule(c) => c < rule,
         Instruction::Var(c) => loops.has(false, c),

@@ -1,1 +1,3 @@
 pub mod Verified
+pub mod Firsts
+pub mod Named

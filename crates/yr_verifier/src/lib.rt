@@ -2,7 +2,13 @@
 #![tactic(auto)]
 
 mod adopting;
+mod header;
 mod image;
+mod naming;
+mod reading;
+mod repeats;
+mod rows;
+mod sections;
 
 pub use adopting::adopt;
 pub use image::VerifiedImage;
