@@ -16,6 +16,12 @@ fn name_at<'a>(view: &ImageView<'a>, k: u32) -> &'a [u8]
     text(view, row.name_place, row.name_length)
 }
 
+fn same(a: &[u8], b: &[u8]) -> bool
+    ensures { IsTrue result ↔ (a.now ≡ b.now) }
+{
+    a == b
+}
+
 // Whether no earlier external variable has the name of number k.
 fn is_new(view: &ImageView, k: u32) -> bool
     requires { k < length (image_of view.now).externals }
@@ -23,7 +29,7 @@ fn is_new(view: &ImageView, k: u32) -> bool
 {
     let name = name_at(view, k);
     for j in 0..k {
-        if name_at(view, j) == name {
+        if same(name_at(view, j), name) {
             return false;
         }
     }

@@ -13,8 +13,8 @@ use yr_codewalk::counting::{count_code, count_edges, count_externals, count_node
 use yr_codewalk::in_pool;
 use yr_image::{EdgeRow, ImageFault, ImageView, NoteRow, RuleRow, SplitRow, StringRow};
 
-// Where a range ends.
-fn end_of(first: u32, count: u32) -> u64
+/// Where a range ends.
+pub fn end_of(first: u32, count: u32) -> u64
     ensures { result ≡ first + count }
 {
     u64::from(first) + u64::from(count)
