@@ -11,6 +11,8 @@ mod programs;
 mod reading;
 mod rows;
 mod sections;
+#[cfg(test)]
+mod tests;
 mod verifying;
 
 pub use adopting::adopt;
