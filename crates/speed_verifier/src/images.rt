@@ -93,7 +93,22 @@ fn rules(alloc: Global, size: u32) -> Result<Draft, AllocError> {
         put_code(&mut draft, 0, 0, 0)?;
     }
     draft.rows.extend_from_slice(b"a")?;
-    draft.counts = [size, size, 0, size, 0, 0, 0, 0, 1, 0, 0, 0, size.wrapping_mul(8), 1];
+    draft.counts = [
+        size,
+        size,
+        0,
+        size,
+        0,
+        0,
+        0,
+        0,
+        1,
+        0,
+        0,
+        0,
+        size.wrapping_mul(8),
+        1,
+    ];
     Ok(draft)
 }
 
@@ -142,7 +157,22 @@ fn externals(alloc: Global, size: u32) -> Result<Draft, AllocError> {
             draft.rows.push(b'a' + (digit as u8 & 15))?;
         }
     }
-    draft.counts = [0, 0, size, 0, 0, 0, 0, 0, 1, 0, 0, 0, 0, size.wrapping_mul(8)];
+    draft.counts = [
+        0,
+        0,
+        size,
+        0,
+        0,
+        0,
+        0,
+        0,
+        1,
+        0,
+        0,
+        0,
+        0,
+        size.wrapping_mul(8),
+    ];
     Ok(draft)
 }
 
@@ -156,7 +186,7 @@ fn lists(alloc: Global, size: u32) -> Result<Draft, AllocError> {
         put(&mut draft, &[0])?;
     }
     for k in 0..size {
-        put_code(&mut draft, 0x11, 0, size)?;
+        put_code(&mut draft, 0x11, 1, size.wrapping_sub(2))?;
         if k > 0 {
             put_code(&mut draft, 0x0002_0416, 0, 0)?;
         }

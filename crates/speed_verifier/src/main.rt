@@ -15,7 +15,7 @@ fn main(rt: HostRuntime) -> anyhow::Result<()> {
     show(rt, timed, "skips", Form::Skips, 1_000_000)?;
     show(rt, timed, "externals, few", Form::Externals, 65_535)?;
     show(rt, timed, "externals, many", Form::Externals, 1_000_000)?;
-    show(rt, timed, "lists", Form::Lists, 10_000)
+    show(rt, timed, "lists", Form::Lists, 500_000)
 }
 
 // What a small image of a form is, or how fast a large one is checked.

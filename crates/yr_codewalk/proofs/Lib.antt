@@ -4,3 +4,4 @@ pub mod RangeLemmas
 pub mod EffectLemmas
 pub mod NameLemmas
 pub mod WalkLemmas
+mod BlockLemmas

@@ -13,8 +13,10 @@ use Rattle.yr_machine.specs.Named.{loop_at, is_loop}
 
 next_test : (m n : ℕ) → (suc m == suc n) ≡ (m == n)
 next_test m n =
-    elim (eqb_tells m n) [ inl t ↦ elim (eqb_tells (suc m) (suc n)) [ inl u ↦ u.0 ∙ sym t.0 | inr u ↦ absurd (u.1 (ap suc t.1)) ]
-    | inr t ↦ elim (eqb_tells (suc m) (suc n)) [ inl u ↦ absurd (t.1 (omega (arith, u.1))) | inr u ↦ u.0 ∙ sym t.0 ] ]
+    elim (eqb_tells m n) [
+      | inl t ↦ elim (eqb_tells (suc m) (suc n)) [ inl u ↦ u.0 ∙ sym t.0 | inr u ↦ absurd (u.1 (ap suc t.1)) ]
+      | inr t ↦ elim (eqb_tells (suc m) (suc n)) [ inl u ↦ absurd (t.1 (omega (arith, u.1))) | inr u ↦ u.0 ∙ sym t.0 ]
+    ]
 
 -- one item more at the end
 get_more : {A : Type 0} → (xs : List A) (x : A) (c : ℕ) → slice_get (xs ++ x ∷ []) c ≡ cond (c == length xs) (Some x) (slice_get xs c)

@@ -26,11 +26,11 @@ down_height h xs le = omega (arith, length-drop (length xs - h) xs, le)
 -- below a loop's answer what the loop kept is gone
 pub down_kept : {A : Type 0} → (kept : ℕ) (x : A) (xs : List A) → down_to (length xs - kept) (x ∷ xs) ≡ drop kept xs
 down_kept kept x xs = elim (leb_tells kept (length xs)) [
-    | inl t ↦ let e : suc (length xs) - (length xs - kept) ≡ suc kept = omega (arith, t.1) in ap (λ n. drop n (x ∷ xs)) e
-    | inr t ↦
+  | inl t ↦ let e : suc (length xs) - (length xs - kept) ≡ suc kept = omega (arith, t.1) in ap (λ n. drop n (x ∷ xs)) e
+  | inr t ↦
       let e : suc (length xs) - (length xs - kept) ≡ suc (length xs) = omega (arith, t.1) in
       ap (λ n. drop n (x ∷ xs)) e ∙ drop_of_length-le xs (omega arith) ∙ sym (drop_of_length-le xs (omega (arith, t.1)))
-  ]
+]
 
 by_test : (b : Bool) (P : Type 0) → (b ≡ true → P) → (b ≡ false → P) → P
 by_test true P yes_case no_case = yes_case refl

@@ -2,3 +2,4 @@ pub mod Stacks
 pub mod Effects
 pub mod Rows
 pub mod Steps
+pub mod Blocks

@@ -210,7 +210,11 @@ pub fn effect_of(view: &ImageView, instruction: Instruction) -> Effect
         Instruction::CountIn(_) => Effect::Gives(numbers(2), Kind::Number),
         Instruction::Offset(_) => Effect::Gives(numbers(1), Kind::Number),
         Instruction::Length(_) => Effect::Gives(numbers(1), Kind::Number),
-        Instruction::Of { form, quantifier, .. } => Effect::Gives(of_wants(form, quantifier), Kind::Flag),
+        Instruction::Of {
+            form,
+            quantifier,
+            ..
+        } => Effect::Gives(of_wants(form, quantifier), Kind::Flag),
         Instruction::Read(_) => Effect::Gives(numbers(1), Kind::Number),
         Instruction::Negate => Effect::Gives(numbers(1), Kind::Number),
         Instruction::Flip => Effect::Gives(numbers(1), Kind::Number),
@@ -224,9 +228,22 @@ pub fn effect_of(view: &ImageView, instruction: Instruction) -> Effect
         Instruction::Settle => Effect::Gives(one(Want::Of(Kind::Flag)), Kind::Flag),
         Instruction::SkipFalse(end) => Effect::Skips(end),
         Instruction::SkipTrue(end) => Effect::Skips(end),
-        Instruction::LoopRange { quantifier, end } => starts(quantified(2, quantifier), false, false, end),
-        Instruction::LoopList { quantifier, end, items } => starts(quantified(items, quantifier), true, false, end),
-        Instruction::LoopStrings { quantifier, end, .. } => starts(quantified(0, quantifier), false, true, end),
+        Instruction::LoopRange { quantifier, end } => starts(
+            quantified(2, quantifier),
+            false,
+            false,
+            end,
+        ),
+        Instruction::LoopList {
+            quantifier,
+            end,
+            items,
+        } => starts(quantified(items, quantifier), true, false, end),
+        Instruction::LoopStrings {
+            quantifier,
+            end,
+            ..
+        } => starts(quantified(0, quantifier), false, true, end),
         Instruction::LoopEnd(place) => Effect::Turns(place),
     }
 }

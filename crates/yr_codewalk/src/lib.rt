@@ -5,11 +5,14 @@ mod checking;
 mod code;
 pub mod counting;
 mod effect;
+mod lists;
+mod members;
 mod naming;
 mod stacks;
 mod walk;
 
 pub use checking::code_fault;
 pub use code::Code;
+pub use lists::Lists;
 pub use naming::in_pool;
 pub use walk::Walk;

@@ -6,10 +6,13 @@ ghost use Rattle.yr_values.specs.Comparisons.{flag_eq};
 ghost use Rattle.yr_image.specs.ModuleTable.{field_row_of, call_row_of};
 ghost use Rattle.yr_image.specs.Image.{in_pool, members_of};
 ghost use Rattle.yr_image.specs.Views.{image_of};
-ghost use Rattle.yr_machine.specs.Named.{is_loop, all_below, string_there, list_there, of_bound, names_there};
+ghost use Rattle.yr_codewalk.specs.Blocks.{AreMost};
+ghost use Rattle.yr_machine.specs.Named.{string_there, list_there, of_bound, names_there};
 
 use crate::counting::{count_externals, count_lists, count_pool, count_programs, count_strings};
 use crate::effect::{call, field};
+use crate::lists::Lists;
+use crate::members::all_below;
 use crate::stacks::Loops;
 use yr_image::{ImageView, Instruction, NamedString, OfForm};
 
@@ -20,29 +23,16 @@ pub fn in_pool(view: &ImageView, place: u64, length: u64) -> bool
     u128::from(place) + u128::from(length) <= u128::from(count_pool(view))
 }
 
-// Whether the members that stand in these list rows are below a bound.
-fn all_below(view: &ImageView, first: u32, rows: u32, bound: u32) -> bool
-    requires inside { first + rows ≤ length (image_of view.now).lists }
-    requires small { first + rows < 2 ^ 32 }
-    ensures { result ≡ all_below bound (members_of (image_of view.now) first rows) }
-{
-    for k in 0..rows {
-        if view.list(first + k) >= bound {
-            return false;
-        }
-    }
-    true
-}
-
 // Whether the list rows are there, and their members below a bound.
-fn list_there(view: &ImageView, first: u64, rows: u64, bound: u32) -> bool
+fn list_there(view: &ImageView, lists: &Lists, first: u64, rows: u64, bound: u32) -> bool
+    requires { AreMost (image_of view.now) lists.now }
     ensures { result ≡ list_there (image_of view.now) 0 [] first rows bound }
 {
     if rows == 0 {
         return true;
     }
     if u128::from(first) + u128::from(rows) <= u128::from(count_lists(view)) {
-        all_below(view, first as u32, rows as u32, bound)
+        all_below(view, lists, first as u32, rows as u32, bound)
     } else {
         false
     }
@@ -88,7 +78,14 @@ fn of_bound(view: &ImageView, rule: u32, form: OfForm) -> u32
 }
 
 /// Whether the rows of the image, the rules before this one and the open loops are there that an instruction names.
-pub fn names_there(view: &ImageView, rule: u32, loops: &Loops, instruction: Instruction) -> bool
+pub fn names_there(
+    view: &ImageView,
+    lists: &Lists,
+    rule: u32,
+    loops: &Loops,
+    instruction: Instruction,
+) -> bool
+    requires { AreMost (image_of view.now) lists.now }
     ensures { result ≡ names_there (image_of view.now) rule loops.now instruction }
 {
     match instruction {
@@ -106,10 +103,25 @@ pub fn names_there(view: &ImageView, rule: u32, loops: &Loops, instruction: Inst
         Instruction::Offset(named) => string_there(view, loops, named),
         Instruction::Length(named) => string_there(view, loops, named),
         Instruction::Of {
-            form, first, rows, ..
-        } => list_there(view, u64::from(first), rows, of_bound(view, rule, form)),
+            form,
+            first,
+            rows,
+            ..
+        } => list_there(
+            view,
+            lists,
+            u64::from(first),
+            rows,
+            of_bound(view, rule, form),
+        ),
         Instruction::Matches(c) => c < count_programs(view),
-        Instruction::LoopStrings { first, rows, .. } => list_there(view, first, rows, count_strings(view)),
+        Instruction::LoopStrings { first, rows, .. } => list_there(
+            view,
+            lists,
+            first,
+            rows,
+            count_strings(view),
+        ),
         _ => true,
     }
 }

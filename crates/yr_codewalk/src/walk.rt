@@ -9,10 +9,12 @@ ghost use Rattle.yr_machine.specs.CodeWalk.{taken, is_answer, is_skip, open_loop
 ghost use Rattle.yr_codewalk.specs.Stacks.{down_to};
 ghost use Rattle.yr_codewalk.specs.Effects.{wants_of, role_of};
 ghost use Rattle.yr_codewalk.specs.Rows.{rows_shown, image_shown};
+ghost use Rattle.yr_codewalk.specs.Blocks.{AreMost};
 ghost use Rattle.yr_codewalk.specs.Steps.{verdict_of, verdict_if, Agrees, AgreesAfter, IsLoopOf};
 
 use crate::code::Code;
 use crate::effect::{Effect, Wants, effect_of, one};
+use crate::lists::Lists;
 use crate::naming::names_there;
 use crate::stacks::{Blocks, Kinds, Loops};
 use yr_base::Kind;
@@ -319,7 +321,11 @@ impl Walk {
         };
         match block.opener {
             Opener::Skip => Pass::Fails,
-            Opener::Loop { place: from, kept, .. } => {
+            Opener::Loop {
+                place: from,
+                kept,
+                ..
+            } => {
                 if from == named
                     && u64::from(block.end) == u64::from(place) + 1
                     && is_answer(&self.kinds, block.floor)
@@ -369,8 +375,10 @@ impl Walk {
         place: u32,
         last: bool,
         instruction: Instruction,
+        lists: &Lists,
     ) -> Pass
-        requires { Agrees self.old }
+        requires agrees { Agrees self.old }
+        requires most { AreMost (image_shown code.now) lists.now }
         ensures verdict { verdict_of result self.new ≡ by_instruction (image_shown code.now) code.now.rule (rows_shown code.now) (Some instruction) last place self.old.kinds self.old.blocks }
         ensures agrees { AgreesAfter result self.new }
     {
@@ -378,15 +386,23 @@ impl Walk {
         if effect.ends() != last {
             return Pass::Fails;
         }
-        if !names_there(&code.view, code.rule, &self.loops, instruction) {
+        if !names_there(&code.view, lists, code.rule, &self.loops, instruction) {
             return Pass::Fails;
         }
         self.apply(code, place, effect)
     }
 
     /// Closes the skips that end at the place, and does what its row does.
-    pub fn pass(&mut self, code: &Code, place: u32, last: bool, row: &CodeRow) -> Pass
-        requires { Agrees self.old }
+    pub fn pass(
+        &mut self,
+        code: &Code,
+        place: u32,
+        last: bool,
+        row: &CodeRow,
+        lists: &Lists,
+    ) -> Pass
+        requires agrees { Agrees self.old }
+        requires most { AreMost (image_shown code.now) lists.now }
         ensures verdict { verdict_of result self.new ≡ by_row (image_shown code.now) code.now.rule (rows_shown code.now) row.now last place (close place self.old.kinds self.old.blocks) }
         ensures agrees { AgreesAfter result self.new }
     {
@@ -395,7 +411,7 @@ impl Walk {
         }
         match row.read() {
             None => Pass::Fails,
-            Some(instruction) => self.pass_instruction(code, place, last, instruction),
+            Some(instruction) => self.pass_instruction(code, place, last, instruction, lists),
         }
     }
 }

@@ -63,7 +63,10 @@ fn repeated_of_many(view: &ImageView, end: u32) -> Option<u32>
         match fill(view, key, &mut table, from, bound) {
             WindowEnd::Repeat(k) => return Some(k),
             WindowEnd::Before(to) => {
-                bound = number_or(first_in(view, key, &table, Window { from, to }, bound), bound);
+                bound = number_or(
+                    first_in(view, key, &table, Window { from, to }, bound),
+                    bound,
+                );
                 from = to;
             }
         }

@@ -25,8 +25,8 @@ program_beyond image k le some = record {
 pub no_programs : (image : Image) (k count : ℕ) → length image.programs ≤ k → k ≡ 0 → count ≡ length image.moves → IsTrue (count == 0) ↔ ProgramPasses image k
 no_programs image k count le zero e = (
   λ t. record {
-        program = λ row at. (let none = slice_get_past image.programs k le in cc (none, at));
-        none = λ _ _. nil_from_length image.moves (omega (arith, eqb-true count 0 t, e));
-      },
+    program = λ row at. (let none = slice_get_past image.programs k le in cc (none, at));
+    none = λ _ _. nil_from_length image.moves (omega (arith, eqb-true count 0 t, e));
+  },
   λ p. eq-eqb count 0 (e ∙ ap length (p.none zero (nil_from_length image.programs (omega (arith, le, zero))))),
 )

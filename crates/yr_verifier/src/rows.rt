@@ -9,7 +9,10 @@ ghost use Rattle.yr_machine.specs.Rows.{end_before, notes_end, strings_end, code
 ghost use Rattle.yr_verifier.specs.Firsts.{Finds, Reaches, Checked};
 
 use crate::reading::{edge, output, unused_of};
-use yr_codewalk::counting::{count_code, count_edges, count_externals, count_nodes, count_notes, count_outputs, count_programs, count_rules, count_splits, count_strings};
+use yr_codewalk::counting::{
+    count_code, count_edges, count_externals, count_nodes, count_notes, count_outputs,
+    count_programs, count_rules, count_splits, count_strings,
+};
 use yr_codewalk::in_pool;
 use yr_image::{EdgeRow, ImageFault, ImageView, NoteRow, RuleRow, SplitRow, StringRow};
 
@@ -146,7 +149,8 @@ fn lies_in(view: &ImageView, k: u32, rule: u32) -> bool
 fn is_good_string(view: &ImageView, k: u32, row: &StringRow) -> bool
     ensures { result ≡ is_good_string (image_of view.now) k row.now }
 {
-    has_range(view, row.name_place, row.name_length) && (row.flags <= 3 && lies_in(view, k, row.rule))
+    has_range(view, row.name_place, row.name_length)
+        && (row.flags <= 3 && lies_in(view, k, row.rule))
 }
 
 fn is_good_side(view: &ImageView, kind: u8, place: u32, length: u32) -> bool

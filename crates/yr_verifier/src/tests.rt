@@ -77,7 +77,11 @@ fn codes_of_rules(rt: HostRuntime) -> Result<(), Fail> {
     }
     for line in BAD.split(';') {
         let (place, rows) = place_and_rows(line);
-        assert_eq!(rt; fault_of(rt.alloc(), rows)?, Some(ImageFault::Code(1, place)), "{line}");
+        assert_eq!(rt;
+            fault_of(rt.alloc(), rows)?,
+            Some(ImageFault::Code(1, place)),
+            "{line}"
+        );
     }
     Ok(())
 }

@@ -115,7 +115,10 @@ pub fn image(alloc: Global, rows: &str) -> Result<Vec<u8>, AllocError> {
     let length = 64 + 80 + 24 + 16 + 8 + 16 + 24 + 8 + 16 * (count + 3) + 4;
     let mut bytes = Vec::new(alloc);
     bytes.extend_from_slice(&[0x59, 0x52, 0x49, 2])?;
-    put(&mut bytes, &[length, 2, 0, 1, 1, 0, 0, 1, 1, 1, 0, 0, 2, count + 3, 4])?;
+    put(
+        &mut bytes,
+        &[length, 2, 0, 1, 1, 0, 0, 1, 1, 1, 0, 0, 2, count + 3, 4],
+    )?;
     put(&mut bytes, &[0, 1, 0, 0, 0, 1, 0, 2, 0, 1])?;
     put(&mut bytes, &[1, 1, 0, 0, 1, 0, 2, count + 1, 0, 1])?;
     put(&mut bytes, &[2, 3, 1, 0, 5, 0])?;

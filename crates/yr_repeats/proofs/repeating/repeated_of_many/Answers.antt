@@ -19,8 +19,7 @@ loop-from-preserved c =
 
 pub returns-then-bound-end : goal.returns-then-bound-end
 returns-then-bound-end c =
-    let done = c.loop-from.invariant.done in
-    (
+    let done = c.loop-from.invariant.done in (
       c.if-bound-end.true,
       repeats_old (image_of c.args.view.now) 0 c.loop-from.bound (omega (arith, c.if-bound-end.true, c.requires)) (done.repeats c.if-bound-end.true),
       all_new (image_of c.args.view.now) c.loop-from.from c.loop-from.bound c.args.end done c.loop-from-test.false,

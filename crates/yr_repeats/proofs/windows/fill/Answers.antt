@@ -11,8 +11,7 @@ use Rattle.yr_repeats.proofs.windows.fill.Goals as goal
 
 pub returns-in-Taken : goal.returns-in-Taken
 returns-in-Taken c =
-    let met = c.in-Taken.ensures in
-    (
+    let met = c.in-Taken.ensures in (
       c.loop-k-test.true,
       present (image_of c.args.view.now) c.args.key c.loop-k.table c.args.from c.loop-k.k c.loop-k.k met.0 c.loop-k.invariant.keeps (omega arith) met.1 met.2,
       c.loop-k.invariant.distinct,
@@ -45,8 +44,7 @@ loop-k-preserved c =
 pub returns : goal.returns
 returns c =
     let image = image_of c.args.view.now in
-    let e : c.loop-k.k ≡ c.args.end = omega (arith, c.loop-k-test.false, c.loop-k.auto.k-end (omega (arith, c.requires.some))) in
-    (
+    let e : c.loop-k.k ≡ c.args.end = omega (arith, c.loop-k-test.false, c.loop-k.auto.k-end (omega (arith, c.requires.some))) in (
       c.requires.some,
       omega arith,
       subst (Keeps image c.args.key c.loop-k.table c.args.from) e c.loop-k.invariant.keeps,

@@ -9,8 +9,7 @@ use Rattle.yr_repeats.proofs.windows.first_in.Goals.{in-Free, in-Nowhere}
 pub returns-in-Taken : goal.returns-in-Taken
 returns-in-Taken c =
     let met = c.in-Taken.ensures in
-    let behind = c.loop-k.auto.k in
-    (
+    let behind = c.loop-k.auto.k in (
       behind,
       c.loop-k-test.true,
       present (image_of c.args.view.now) c.args.key c.args.table.now c.args.window.from c.args.window.to c.loop-k.k met.0 c.requires.keeps behind met.1 met.2,
@@ -28,5 +27,5 @@ loop-k-preserved c =
       | in-Nowhere w ↦ absent_all image c.args.key c.args.table.now window.from window.to k c.requires.keeps w.in-Nowhere.ensures
     ] in
     λ i low high.
-        ⊎_elim (λ e. subst (IsOther image window.from window.to) (sym e) here)
-        (⊎_elim (λ lt. c.loop-k.invariant i low lt) (λ gt. absurd (omega (arith, gt, high)))) (cases_order i k)
+    ⊎_elim (λ e. subst (IsOther image window.from window.to) (sym e) here)
+    (⊎_elim (λ lt. c.loop-k.invariant i low lt) (λ gt. absurd (omega (arith, gt, high)))) (cases_order i k)

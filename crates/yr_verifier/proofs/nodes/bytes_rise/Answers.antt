@@ -9,8 +9,7 @@ returns-then-edge c =
     let edges = (image_of c.args.view.now).edges in
     let k = c.loop-k.k in
     let some = c.loop-k.auto.k in
-    let place : c.args.first + (k - 1) ≡ c.args.first + k - 1 = omega (arith, some) in
-    (
+    let place : c.args.first + (k - 1) ≡ c.args.first + k - 1 = omega (arith, some) in (
       λ e. absurd (true≢false (sym e)),
       λ rise.
           let lower = of_range c.args.first c.args.count edges c.requires (k - 1) c.edge.result (omega (arith, c.loop-k-test.true)) (ap (slice_get edges) place ∙ c.edge.ensures) in

@@ -9,4 +9,4 @@ returns-clause-verdict c =
     let code = c.args.code.now in
     c.apply.ensures.verdict
     ∙ instruction_goes (image_shown code) code.rule (rows_shown code) c.args.instruction c.args.last (role_of c.effect_of-effect.result) c.args.place c.args.self.now.kinds
-    c.args.self.now.blocks c.args.self.now.loops c.effect_of-effect.ensures (sym c.ends.ensures ∙ same_flags c.ends.result c.args.last c.if-ends-last.false) c.requires (sym c.names_there.ensures ∙ c.if-not-names_there.false)
+    c.args.self.now.blocks c.args.self.now.loops c.effect_of-effect.ensures (sym c.ends.ensures ∙ same_flags c.ends.result c.args.last c.if-ends-last.false) c.requires.agrees (sym c.names_there.ensures ∙ c.if-not-names_there.false)
