@@ -12,7 +12,7 @@ use Rattle.yr_values.specs.Values.{Value, Undefined, Number, Flag, Text}
 use Rattle.yr_values.specs.Modules.{Suits}
 use Rattle.yr_hash.specs.declared.digest.DigestKind.{DigestKind}
 use Rattle.yr_hash.specs.declared.digest.DigestKind.TheVariants.{Md5, Sha1, Sha256}
-use Rattle.yr_hash.specs.Digests.{digest_of, digest_value}
+use Rattle.yr_hash.specs.Digests.{digest_with, digest_of, digest_value, digest_or, kind_or, range_in}
 
 -- each word of a hash value has four bytes
 length-digest_bytes : (h : List ℕ) (n : ℕ) → length (digest_bytes h n) ≡ n * 4
@@ -53,3 +53,21 @@ text-short digest range text e = subst IsShort e (value-short digest range)
 pub value-suits : (digest : DigestKind) (range : Option (List ℕ)) → Suits (Some kind.Text) (digest_value digest range)
 value-suits digest None = tt
 value-suits digest (Some m) = tt
+
+-- the value of the call with an id where no other module has calls: its kind, and how long its text is
+digest_or-suits : (d : Option DigestKind) (file : List ℕ) (from size : ℤ) → Suits (kind_or d None) (digest_or d file from size Undefined)
+digest_or-suits None file from size = refl
+digest_or-suits (Some d) file from size = value-suits d (range_in file from size)
+
+pub call-suits : (id : ℕ) (file : List ℕ) (from size : ℤ) → Suits (kind_or (digest_with id) None) (digest_or (digest_with id) file from size Undefined)
+call-suits id file from size = digest_or-suits (digest_with id) file from size
+
+no_text : (text : List ℕ) → Undefined ≡ Text text → length text ≤ 64
+no_text text e = subst IsShort e tt
+
+digest_or-short : (d : Option DigestKind) (file text : List ℕ) (from size : ℤ) → digest_or d file from size Undefined ≡ Text text → length text ≤ 64
+digest_or-short None file text from size e = no_text text e
+digest_or-short (Some d) file text from size e = text-short d (range_in file from size) text e
+
+pub call-short : (id : ℕ) (file text : List ℕ) (from size : ℤ) → digest_or (digest_with id) file from size Undefined ≡ Text text → length text ≤ 64
+call-short id file text from size e = digest_or-short (digest_with id) file text from size e

@@ -8,7 +8,9 @@ use Rattle.yr_pe.specs.declared.field.Field.{Field}
 use Rattle.yr_pe.specs.declared.field.Field.TheVariants.{Header, EntryPoint, SectionName, Section}
 use Rattle.yr_pe.specs.Sections.{indexed_place, number_by, name_at}
 use Rattle.yr_pe.specs.EntryPoint.{entry_point}
-use Rattle.yr_pe.specs.Fields.{number_value, text_value, value_in, value_with, kind_in}
+use Rattle.yr_base.specs.declared.value.Kind.{Kind}
+use Rattle.yr_pe.specs.Header.{header_place}
+use Rattle.yr_pe.specs.Fields.{number_value, text_value, value_in, value_with, field_with, field_or, kind_in, kind_or}
 use Rattle.yr_pe.proofs.NameLemmas.{before_zero-short}
 
 number_value-suits : (f : Field) (o : Option ℕ) → kind_in f ≡ kind_in EntryPoint → Suits (Some (kind_in EntryPoint)) (number_value o)
@@ -58,3 +60,20 @@ value_with-short (Some p) file index f = value_in-short file p index f
 
 pub text-short : (place : Option ℕ) (file text : List ℕ) (index : ℤ) (f : Field) → value_with place file index f ≡ Text text → length text ≤ length file
 text-short place file text index f e = subst (IsWithinBytes (length file)) e (value_with-short place file index f)
+
+-- the value of the field with an id, beside those of other modules: its kind, and how long its text is
+field_or-suits : (f : Option Field) (file : List ℕ) (index : ℤ) (kind : Option Kind) (v : Value) → Suits kind v → Suits (kind_or f kind) (field_or f file index v)
+field_or-suits None file index kind v h = h
+field_or-suits (Some f) file index kind v h = value-suits (header_place file) file index f
+
+pub field-suits : (id : ℕ) (file : List ℕ) (index : ℤ) (kind : Option Kind) (v : Value) → Suits kind v → Suits (kind_or (field_with id) kind) (field_or (field_with id) file index v)
+field-suits id file index kind v h = field_or-suits (field_with id) file index kind v h
+
+field_or-short : (f : Option Field) (file text : List ℕ) (index : ℤ) (v : Value) → (v ≡ Text text → length text ≤ length file)
+    → field_or f file index v ≡ Text text → length text ≤ length file
+field_or-short None file text index v h e = h e
+field_or-short (Some f) file text index v h e = text-short (header_place file) file text index f e
+
+pub field-short : (id : ℕ) (file text : List ℕ) (index : ℤ) (v : Value) → (v ≡ Text text → length text ≤ length file)
+    → field_or (field_with id) file index v ≡ Text text → length text ≤ length file
+field-short id file text index v h e = field_or-short (field_with id) file text index v h e
