@@ -88,7 +88,9 @@ pub fn rarity(word: &[u8], key: u8, fold: bool) -> u32 {
     for b in word {
         let read = if fold { b.to_ascii_lowercase() } else { *b };
         let twice = fold && letter(*b).is_some();
-        sum = sum.saturating_add(rarity_next(before, read ^ key)).saturating_sub(u32::from(twice));
+        sum = sum
+            .saturating_add(rarity_next(before, read ^ key))
+            .saturating_sub(u32::from(twice));
         before = Some(read ^ key);
     }
     sum
