@@ -64,9 +64,18 @@ module _ (old new : Image) (text : List ℕ) (place : ℕ) (has : HasText old ne
       let h : length new.moves ≡ length old.moves = ap (λ (i : Image). length i.moves) has.others in
       let few = has.few in omega (arith, a, b, c, d, e, f, g, h, few)
 
+  others : new ≡ record old { sets = new.sets; programs = new.programs; moves = new.moves; pool = new.pool }
+  others =
+      let sets : old.sets ≡ new.sets = sym (ap (λ (i : Image). i.sets) has.others) in
+      let programs : old.programs ≡ new.programs = sym (ap (λ (i : Image). i.programs) has.others) in
+      let moves : old.moves ≡ new.moves = sym (ap (λ (i : Image). i.moves) has.others) in
+      let same : record old { pool = new.pool } ≡ record old { sets = new.sets; programs = new.programs; moves = new.moves; pool = new.pool } =
+      λ i. record old { sets = sets i; programs = programs i; moves = moves i; pool = new.pool } in
+      has.others ∙ same
+
   pub text_put : (backwards : Bool) → PutsSide old new backwards (piece.Literal text) 1 place (length text)
   text_put backwards = record {
-    others = has.others;
+    others = others;
     grows = text_grows;
     programs = programs_stay old new text_grows (ap (λ (i : Image). i.programs) has.others) (ap (λ (i : Image). i.moves) has.others);
     is = (refl, has.inside, has.reads);
