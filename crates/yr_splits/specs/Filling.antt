@@ -3,7 +3,7 @@ use Rattle.std.specs.Prelude.{◌≡◌, ℕ, ◌+◌, ◌*◌, ◌≤◌, Bool,
 use Rattle.yr_pattern.specs.Variants.{PlainVariant}
 use Rattle.yr_rules.specs.Rules.{PlainString}
 use Rattle.yr_rules.specs.Weight.{total, string_weight, variant_weight}
-use Rattle.yr_atoms.specs.Splits.{Piece}
+use Rattle.yr_atoms.specs.Splits.{Piece, Split, piece_size}
 use Rattle.yr_image.specs.declared.rows.SplitRow.{SplitRow}
 use Rattle.yr_image.specs.declared.rows.StringRow.{StringRow}
 use Rattle.yr_image.specs.Image.{Image, pool_text}
@@ -49,6 +49,10 @@ pub record HasPart (image : Image) (placed : List Placed) (strings : List PlainS
   pub string_rows : SayStrings image strings
   pub long : HaveLongAtomsSoFar placed strings variants
   pub sound : All IsSound placed
+
+-- pieces that are not too large for a program
+abbrev pub IsSmall : Split → Type 0
+IsSmall split = piece_size split.before + piece_size split.after ≤ 65535
 
 -- a side of a split is put
 pub record PutsSide (old new : Image) (backwards : Bool) (piece : Piece) (kind place count : ℕ) : Type 0 where
