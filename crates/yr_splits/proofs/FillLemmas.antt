@@ -1,6 +1,6 @@
 -- An image stays what it is while splits and strings are put into it, one after another.
 use Rattle.std.proofs.Common.{◌≡◌, ℕ, ◌+◌, ◌*◌, ◌<◌, ◌≤◌, Bool, true, false, ◌⊎◌, inl, inr, suc, List, [], ◌∷◌, ◌++◌, length, map, take, drop, All, Some, slice_get, get_or, refl, sym, ap, ap₂, ◌∙◌, subst, arith}
-use Rattle.std.proofs.lemmas.List.{length-append, append_assoc, append-nil, map-append}
+use Rattle.std.proofs.lemmas.List.{length-append, length-map, append_assoc, append-nil, map-append}
 use Rattle.std.proofs.lemmas.List.Elements.{All-append, All-nil, All-map, All-head, All-tail}
 use Rattle.std.proofs.Math.Nat.{mul-le-mul_right}
 use Rattle.std.proofs.lemmas.Option.{none-some, slice_get_within}
@@ -28,7 +28,7 @@ use Rattle.yr_splits.specs.SplitRows.{flag, IsSplitRow, AreSplitRows}
 use Rattle.yr_splits.specs.Standing.{atoms_of}
 use Rattle.yr_splits.specs.Programs.{AreProgramRows}
 use Rattle.yr_splits.specs.Sizes.{piece_cost, row_cost, rows_cost, atom_cost, atoms_cost}
-use Rattle.yr_splits.specs.Filling.{IsStringRow, SayStrings, IsSound, HasStrings, HasPart, PutsSide, PutsRow, PutsSplits, IsLater, Filled, FilledPart}
+use Rattle.yr_splits.specs.Filling.{IsStringRow, SayStrings, IsSound, HasStrings, HasPart, PutsSide, PutsSplits, IsLater, Filled, FilledPart}
 use Rattle.yr_splits.proofs.GrowLemmas.{grows_after, grows_same, kept_range, longer, side_grows, row_grows, no_rows, rows_grow, rows_more, begins_same}
 use Rattle.yr_splits.proofs.ProgramLemmas.{programs_stay}
 use Rattle.yr_splits.proofs.PlacedLemmas.{push_place, no_strings, part_begins, part_more, part_ends}
@@ -250,6 +250,10 @@ variant_cost v splits string covers atoms pieces = at v.body covers atoms pieces
         let each = split_costs splits string v.border (212 + 48 * size_of tree) (λ k d b. shape_split (get_or splits k d) tree (c.small k d b) (a k d b)) in
         let few = few_times (length splits) (212 + 48 * size_of tree) c.few in omega (arith, each, few)
 
+body_heavy : (body : Body) → 64 ≤ body_weight body
+body_heavy (variant.Literal bytes key fold) = omega arith
+body_heavy (variant.Shape tree) = omega arith
+
 sound_split : (body : Body) (split : Split) → IsSoundBody body → HasItsKey body split → HasAtomOf body split → (length split.atom ≤ 4) × (split.fold ≡ true → split.key ≡ 0)
 sound_split (variant.Literal bytes key fold) split sound keys atom = (omega (arith, atom), λ h. keys.0 ∙ sound.1 (sym keys.1 ∙ h))
 sound_split (variant.Shape tree) split sound keys atom = (atom.1, λ h. keys.0)
@@ -270,6 +274,7 @@ filled_none start strings splits = record {
   has = record { splits = no_strings; rows = no_rows start splits; string_rows = say_none start strings; long = no_atoms; sound = All-nil IsSound };
   later = later_same start;
   atoms_are = refl;
+  few = omega arith;
   cost = omega arith;
 }
 
@@ -285,6 +290,7 @@ filled_begins start image placed strings atoms f = record {
   };
   later = f.later;
   atoms_are = f.atoms_are;
+  few = let c = f.few in omega (arith, c);
   cost = let c = f.cost in omega (arith, c);
 }
 
@@ -304,6 +310,13 @@ filled_more start old new placed strings variants atoms v splits good covers lon
   atoms_are =
       ap₂ (λ (x y : List (List ℕ)). x ++ y) f.atoms_are (sym (placed_atoms splits (length strings) v.border))
       ∙ sym (map-append (λ (p : Placed). p.split.atom) placed (place_all (length strings) v.border splits));
+  few =
+      let a = f.few in
+      let b = length-append placed (place_all (length strings) v.border splits) in
+      let c = length-map splits (place (length strings) v.border) in
+      let d = covers.few in
+      let e = total-push variant_weight variants v in
+      let g = body_heavy v.body in omega (arith, a, b, c, d, e, g);
   cost =
       let a = f.cost in
       let b = put.cost in
@@ -384,6 +397,7 @@ module _ (start old middle new : Image) (placed : List Placed) (strings : List P
     };
     later = later_after start old new f.later sections to_end keeps_programs;
     atoms_are = f.atoms_are;
+    few = let a = f.few in let c = total-push string_weight strings string in omega (arith, a, c);
     cost =
         let a = f.cost in
         let b = end_cost in

@@ -1,9 +1,11 @@
 -- What a side of a split adds to an image, and what it costs.
-use Rattle.std.proofs.Common.{◌≡◌, ℕ, ◌+◌, ◌*◌, ◌<◌, ◌≤◌, Bool, List, [], ◌∷◌, ◌++◌, length, refl, sym, ap, ◌∙◌, subst, arith}
+use Rattle.std.proofs.Common.{◌≡◌, ℕ, ◌+◌, ◌*◌, ◌<◌, ◌≤◌, ◌↔◌, Bool, true, false, List, [], ◌∷◌, ◌++◌, length, refl, sym, ap, ◌∙◌, subst, arith}
 use Rattle.std.proofs.lemmas.List.{length-append, length-map}
 use Rattle.yr_pattern.specs.Tree.{Tree}
 use Rattle.yr_pattern.specs.Sizes.{size_of}
+use Rattle.yr_pattern.specs.Spans.{Spans}
 use Rattle.yr_rows.specs.Moves.{AreWellformedMoves}
+use Rattle.yr_rows.specs.Accepts.{Accepts, AcceptsBackwards}
 use Rattle.yr_rows.specs.declared.moves.MoveRow.{MoveRow}
 use Rattle.yr_atoms.specs.Splits as piece
 use Rattle.yr_image.specs.declared.rows.ProgramRow.{ProgramRow}
@@ -85,13 +87,13 @@ module _ (old new : Image) (text : List ℕ) (place : ℕ) (has : HasText old ne
 module _ (old : Image) (backwards : Bool) (tree : Tree) (moves : List MoveRow) (sets : List (List ℕ))
     (good : AreWellformedMoves moves sets) (accepts : AcceptSpans backwards moves sets tree)
     (small : length moves ≡ size_of tree + 1) (few : length sets < length moves) where
-  abbrev new : Image
-  new = with_program old moves sets
+  abbrev grown : Image
+  grown = with_program old moves sets
 
   abbrev row : ProgramRow
   row = row_behind old.moves moves
 
-  program_grows : Grows old new
+  program_grows : Grows old grown
   program_grows = record {
     sets = (sets, refl);
     programs = (row ∷ [], refl);
@@ -99,10 +101,10 @@ module _ (old : Image) (backwards : Bool) (tree : Tree) (moves : List MoveRow) (
     pool = begins_same old.pool old.pool refl;
   }
 
-  program_cost : encoded_length new ≤ encoded_length old + (24 + 48 * size_of tree)
+  program_cost : encoded_length grown ≤ encoded_length old + (24 + 48 * size_of tree)
   program_cost =
       let a = in_parts old in
-      let b = in_parts new in
+      let b = in_parts grown in
       let s : length (old.sets ++ sets) ≡ length old.sets + length sets = length-append old.sets sets in
       let m : length (old.moves ++ moves_behind (length old.sets) moves) ≡ length old.moves + length (moves_behind (length old.sets) moves) =
       length-append old.moves (moves_behind (length old.sets) moves) in
@@ -110,11 +112,28 @@ module _ (old : Image) (backwards : Bool) (tree : Tree) (moves : List MoveRow) (
       let p : length (old.programs ++ row ∷ []) ≡ length old.programs + 1 = length-append old.programs (row ∷ []) in
       omega (arith, a, b, s, m, n, p, small, few)
 
-  pub program_put : PutsSide old new backwards (piece.Shape tree) 2 (length old.programs) 0
+  pub program_put : PutsSide old grown backwards (piece.Shape tree) 2 (length old.programs) 0
   program_put = record {
     others = refl;
     grows = program_grows;
-    programs = programs_more old new moves sets row program_grows good refl refl refl refl refl;
-    is = (refl, program_added old new backwards tree moves sets row good accepts refl refl refl refl refl, refl);
+    programs = programs_more old grown moves sets row program_grows good refl refl refl refl refl;
+    is = (refl, program_added old grown backwards tree moves sets row good accepts refl refl refl refl refl, refl);
     cost = program_cost;
   }
+
+accepts_spans : (backwards : Bool) (moves : List MoveRow) (sets : List (List ℕ)) (tree : Tree)
+    → (backwards ≡ false → (file : List ℕ) (i j : ℕ) → Accepts moves sets file i j ↔ Spans tree file i j)
+    → (backwards ≡ true → (file : List ℕ) (i j : ℕ) → AcceptsBackwards moves sets file i j ↔ Spans tree file i j)
+    → AcceptSpans backwards moves sets tree
+accepts_spans true moves sets tree f b = b refl
+accepts_spans false moves sets tree f b = f refl
+
+pub shape_put : (old new : Image) (backwards : Bool) (tree : Tree) (moves : List MoveRow) (sets : List (List ℕ)) (number : ℕ)
+    → (backwards ≡ false → (file : List ℕ) (i j : ℕ) → Accepts moves sets file i j ↔ Spans tree file i j)
+    → (backwards ≡ true → (file : List ℕ) (i j : ℕ) → AcceptsBackwards moves sets file i j ↔ Spans tree file i j)
+    → AreWellformedMoves moves sets → length moves ≡ size_of tree + 1 → length sets < length moves
+    → new ≡ with_program old moves sets → number ≡ length old.programs → PutsSide old new backwards (piece.Shape tree) 2 number 0
+shape_put old new backwards tree moves sets number f b good small few is n =
+    let P : Image → Type 0 = λ i. PutsSide old i backwards (piece.Shape tree) 2 number 0 in
+    let Q : ℕ → Type 0 = λ k. PutsSide old (with_program old moves sets) backwards (piece.Shape tree) 2 k 0 in
+    subst P (sym is) (subst Q (sym n) (program_put old backwards tree moves sets good (accepts_spans backwards moves sets tree f b) small few))

@@ -14,7 +14,8 @@ use Rattle.yr_splits.specs.Standing.{atoms_of}
 use Rattle.yr_tables.specs.Growing.{Grows}
 use Rattle.yr_splits.specs.Programs.{AreProgramRows}
 use Rattle.yr_splits.specs.Lengths.{HaveLongAtoms, HaveLongAtomsSoFar}
-use Rattle.yr_splits.specs.Sizes.{piece_cost, row_cost, rows_cost, atoms_cost}
+use Rattle.yr_automaton.specs.Automaton.{Rows, IsAutomatonOf}
+use Rattle.yr_splits.specs.Sizes.{total_length, piece_cost, row_cost, rows_cost, atoms_cost}
 
 -- the row says the string
 pub record IsStringRow (image : Image) (string : PlainString) (row : StringRow) : Type 0 where
@@ -62,12 +63,6 @@ pub record PutsSide (old new : Image) (backwards : Bool) (piece : Piece) (kind p
   pub is : IsSide new backwards piece kind place count
   pub cost : encoded_length new ≤ encoded_length old + piece_cost piece
 
--- the last row is of this split
-pub record PutsRow (old new : Image) (p : Placed) : Type 0 where
-  pub row : SplitRow
-  pub pushed : new.splits ≡ old.splits ++ row ∷ []
-  pub is : IsSplitRow new p row
-
 -- splits are put
 pub record PutsSplits (old new : Image) (added : List Placed) : Type 0 where
   pub others : new ≡ record old { splits = new.splits; sets = new.sets; programs = new.programs; moves = new.moves; pool = new.pool }
@@ -87,11 +82,51 @@ pub record Filled (start image : Image) (placed : List Placed) (strings : List P
   pub has : HasStrings image placed strings
   pub later : IsLater start image
   pub atoms_are : atoms ≡ atoms_of placed
+  pub few : length placed ≤ total string_weight strings
   pub cost : encoded_length image + atoms_cost placed ≤ encoded_length start + 64 * total string_weight strings
 
 pub record FilledPart (start image : Image) (placed : List Placed) (strings : List PlainString) (variants : List PlainVariant) (atoms : List (List ℕ)) : Type 0 where
   pub has : HasPart image placed strings variants
   pub later : IsLater start image
   pub atoms_are : atoms ≡ atoms_of placed
+  pub few : length placed ≤ total string_weight strings + total variant_weight variants
   pub cost : encoded_length image + atoms_cost placed
       ≤ encoded_length start + 64 * (total string_weight strings + total variant_weight variants)
+
+-- the rows of an image's automaton
+abbrev pub rows_in : Image → Rows
+rows_in image = record { nodes = image.nodes; edges = image.edges; outputs = image.outputs }
+
+-- the automaton of words is put; besides 32 bytes it costs 4 for each word, and 32 for each of their bytes
+pub record PutsAutomaton (old new : Image) (words : List (List ℕ)) : Type 0 where
+  pub others : new ≡ record old { nodes = new.nodes; edges = new.edges; outputs = new.outputs }
+  pub is : IsAutomatonOf words (rows_in new)
+  pub cost : encoded_length new ≤ encoded_length old + 32 + (4 * length words + 32 * total_length words)
+
+-- strings are put into an image that had none, with the automaton of their atoms
+pub record PutsStrings (old new : Image) (strings : List PlainString) : Type 0 where
+  pub placed : List Placed
+  pub has : HasStrings new placed strings
+  pub automaton : IsAutomatonOf (atoms_of placed) (rows_in new)
+  pub others : new ≡ record old {
+    strings = new.strings;
+    splits = new.splits;
+    sets = new.sets;
+    programs = new.programs;
+    moves = new.moves;
+    nodes = new.nodes;
+    edges = new.edges;
+    outputs = new.outputs;
+    pool = new.pool;
+  }
+  pub grows : Grows old new
+  pub programs : AreProgramRows old → AreProgramRows new
+  pub cost : encoded_length new ≤ encoded_length old + 64 * total string_weight strings + 32
+
+-- strings, splits and automaton have stayed as they were
+pub record KeepsStrings (old new : Image) : Type 0 where
+  pub strings : new.strings ≡ old.strings
+  pub splits : new.splits ≡ old.splits
+  pub nodes : new.nodes ≡ old.nodes
+  pub edges : new.edges ≡ old.edges
+  pub outputs : new.outputs ≡ old.outputs

@@ -76,7 +76,10 @@ pub fn put_side(
             place: 0,
             length: 0,
         }),
-        Piece::Literal(bytes) => put_literal(draft, bytes),
+        Piece::Literal(bytes) => {
+            let side = put_literal(draft, bytes)?;
+            Ok(side)
+        }
         Piece::Shape(pattern) => put_shape(alloc, draft, pattern, backwards),
     }
 }

@@ -1,6 +1,6 @@
 //! Rows of splits.
 
-ghost use Rattle.std.specs.Prelude.{◌≡◌, ◌+◌, ◌≤◌, [], ◌∷◌, ◌++◌, map, Some, All, OnOk};
+ghost use Rattle.std.specs.Prelude.{◌≡◌, ◌+◌, ◌≤◌, [], ◌∷◌, ◌++◌, length, map, Some, All, OnOk};
 ghost use Rattle.yr_atoms.specs.Splits.{piece_size};
 ghost use Rattle.yr_atoms.specs.Coded.{piece_of, split_of, word};
 ghost use Rattle.yr_machine.specs.ImageMatches.{border_of};
@@ -33,6 +33,13 @@ pub fn one_if(flag: bool) -> u8
     if flag { 1 } else { 0 }
 }
 
+/// How many bytes an atom has.
+fn atom_length(atom: &Atom) -> u8
+    ensures { result ≡ length (word atom.now) }
+{
+    atom.bytes[..atom.len as usize].len() as u8
+}
+
 /// Puts a split of a string.
 fn put_split(
     alloc: Global,
@@ -53,12 +60,13 @@ fn put_split(
         after_kind: after.kind,
         key: split.key,
         fold: one_if(split.fold),
-        atom_length: split.atom.len,
+        atom_length: atom_length(&split.atom),
         before_place: before.place,
         before_length: before.length,
         after_place: after.place,
         after_length: after.length,
-    })
+    })?;
+    Ok(())
 }
 
 /// Puts the splits of a variant, and keeps their atoms in the same order.

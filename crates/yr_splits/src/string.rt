@@ -31,7 +31,8 @@ fn put_variant(
         → (more : List Placed) × FilledPart start draft.new (placed ++ more) strings (variants ++ variant_of v.now ∷ []) (map word atoms.new.items)) }
 {
     let splits = cover(alloc, v)?;
-    put_splits(alloc, draft, atoms, string, v.border, &splits)
+    put_splits(alloc, draft, atoms, string, v.border, &splits)?;
+    Ok(())
 }
 
 /// Puts the splits of all variants of the string with this number.
@@ -67,13 +68,15 @@ fn put_string(
         → (more : List Placed) × Filled start draft.new (placed ++ more) (strings ++ string_of string.now ∷ []) (map word atoms.new.items)) }
 {
     put_variants(alloc, draft, atoms, number, &string.variants)?;
-    let place = draft.put_text(&string.name)?;
+    let name: &[u8] = &string.name;
+    let place = draft.put_text(name)?;
     draft.put_string(StringRow {
         name_place: place,
-        name_length: string.name.len() as u32,
+        name_length: name.len() as u32,
         flags: u32::from(one_if(string.hidden)) + 2 * u32::from(one_if(string.greedy)),
         rule: string.rule,
-    })
+    })?;
+    Ok(())
 }
 
 /// Puts strings, and tells the atoms of their splits in order.
