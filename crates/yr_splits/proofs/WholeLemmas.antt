@@ -1,27 +1,40 @@
 -- The strings of rules, put with their automaton: what an image has then, and keeps.
-use Rattle.std.proofs.Common.{◌≡◌, ℕ, zero, suc, ◌+◌, ◌*◌, ◌/◌, ◌%◌, ◌==◌, ◌<◌, ◌≤◌, nat_le, Bool, true, false, List, [], ◌∷◌, ◌++◌, length, map, All, Some, slice_get, refl, sym, ap, ap₂, ◌∙◌, subst, arith}
+use Rattle.std.proofs.Common.{◌≡◌, ℕ, zero, suc, ◌+◌, ◌*◌, ◌/◌, ◌%◌, ◌==◌, ◌<◌, ◌≤◌, nat_le, ◌&&◌, Bool, true, false, List, [], ◌∷◌, ◌++◌, length, map, All, Contains, Option, Some, None, slice_get, refl, sym, ap, ap₂, ◌∙◌, subst, arith}
 use Rattle.std.proofs.lemmas.Bool.{le-leb}
+use Rattle.std.specs.List.{list_all}
+use Rattle.std.specs.Option.{option_map_or}
 use Rattle.std.proofs.lemmas.List.{length-map}
+use Rattle.std.proofs.lemmas.List.Elements.{All-contains}
+use Rattle.yr_base.specs.Bytes.{is_word_byte}
+use Rattle.yr_base.specs.Words.{name_limit}
+use Rattle.yr_syntax.specs.Forms.{Each, IsName}
 use Rattle.yr_rows.specs.Nodes.{edge_of}
 use Rattle.yr_rows.specs.declared.nodes.NodeRow.{NodeRow}
 use Rattle.yr_rows.specs.declared.nodes.EdgeRow.{EdgeRow}
 use Rattle.yr_rules.specs.Rules.{PlainString}
 use Rattle.yr_rules.specs.Weight.{total, string_weight}
+use Rattle.yr_rules.specs.Wellformed.{IsGoodString}
 use Rattle.yr_automaton.specs.Automaton.{Rows, IsAutomatonOf}
 use Rattle.yr_image.specs.declared.rows.StringRow.{StringRow}
-use Rattle.yr_image.specs.Image.{Image}
+use Rattle.yr_image.specs.declared.rows.SplitRow.{SplitRow}
+use Rattle.yr_image.specs.Image.{Image, in_pool}
+use Rattle.yr_machine.specs.Rows.{is_good_split, row_passes}
+use Rattle.yr_machine.specs.Names.{is_string_name, string_name}
 use Rattle.yr_image.specs.Encoding.{encoded_length}
 use Rattle.yr_tables.specs.Growing.{Grows}
-use Rattle.yr_splits.specs.Placed.{Placed}
+use Rattle.yr_splits.specs.Placed.{Placed, IsBelow}
 use Rattle.yr_splits.specs.SplitRows.{flag}
 use Rattle.yr_splits.specs.Standing.{atoms_of, AreStringRows, StandsFor}
 use Rattle.yr_splits.specs.Programs.{AreProgramRows}
 use Rattle.yr_splits.specs.Sizes.{total_length, atoms_cost}
-use Rattle.yr_splits.specs.Filling.{SayStrings, HasStrings, IsLater, Filled, PutsAutomaton, PutsStrings, KeepsStrings, rows_in}
+use Rattle.yr_splits.specs.Filling.{IsStringRow, IsSound, HasStrings, IsLater, Filled, PutsAutomaton, PutsStrings, KeepsStrings, rows_in}
 use Rattle.yr_splits.proofs.GrowLemmas.{grows_after, grows_same, rows_grow}
 use Rattle.yr_splits.proofs.ProgramLemmas.{programs_stay}
 use Rattle.yr_splits.proofs.AutomatonLemmas.{few_nodes, few_edges, few_outputs}
 use Rattle.yr_splits.proofs.FillLemmas.{say_stays}
+use Rattle.yr_splits.proofs.PassLemmas.{split_passes}
+use Rattle.yr_splits.proofs.ReportLemmas.{there_at}
+use Rattle.yr_splits.proofs.CountLemmas.{there_too}
 
 -- the bytes of the sections of an automaton, and of the others
 abbrev automaton_bytes : Image → ℕ
@@ -222,3 +235,52 @@ stays old new placed strings grows keeps h a =
     let o = sym keeps.outputs in
     let same : rows_in old ≡ rows_in new = λ i. record { nodes = n i; edges = e i; outputs = o i } in
     (has_stays old new placed strings grows keeps.strings keeps.splits h, subst (IsAutomatonOf (atoms_of placed)) same a)
+
+-- ---- what passes
+
+both : (a b : Bool) → a ≡ true → b ≡ true → (a && b) ≡ true
+both a b e f = ap₂ (λ x y. x && y) e f
+
+all_pass : (test : ℕ → Bool) (xs : List ℕ) → Each (λ b. test b ≡ true) xs → list_all test xs ≡ true
+all_pass test [] h = refl
+all_pass test (x ∷ xs) h = both (test x) (list_all test xs) h.0 (all_pass test xs h.1)
+
+good_name : (name : List ℕ) → IsName name → is_string_name name ≡ true
+good_name name h = both (list_all is_word_byte name) (nat_le (length name) name_limit) (all_pass is_word_byte name h.0) (le-leb (length name) name_limit h.1)
+
+module _ (image : Image) (placed : List Placed) (strings : List PlainString) (has : HasStrings image placed strings) where
+  -- the split of a row, and the string of one
+  split_of_row : (k : ℕ) (row : SplitRow) → slice_get image.splits k ≡ Some row → (p : Placed) × (slice_get placed k ≡ Some p)
+  split_of_row k row h = there_too image.splits placed k row has.rows.count h
+
+  string_of_row : (k : ℕ) (row : StringRow) → slice_get image.strings k ≡ Some row → (string : PlainString) × (slice_get strings k ≡ Some string)
+  string_of_row k row h = there_too image.strings strings k row has.string_rows.count h
+
+  pub splits_pass : (k : ℕ) → row_passes image (is_good_split image 0) image.splits k ≡ true
+  splits_pass k = at (slice_get image.splits k) refl
+    where
+      at : (o : Option SplitRow) → slice_get image.splits k ≡ o → option_map_or (is_good_split image 0) o true ≡ true
+      at None e = refl
+      at (Some row) e =
+          let p = split_of_row k row e in
+          let there : Contains placed p.0 = there_at placed k p.0 p.1 in
+          let below : p.0.string < length strings = All-contains (IsBelow (length strings)) placed p.0 has.splits.below there in
+          let sound : IsSound p.0 = All-contains IsSound placed p.0 has.sound there in
+          let count = has.string_rows.count in
+          split_passes image p.0 row (has.rows.each k p.0 row p.1 e) (omega (arith, below, count)) sound.short sound.one
+
+  pub string_says : (k : ℕ) (row : StringRow) → slice_get image.strings k ≡ Some row
+      → (string : PlainString) × (slice_get strings k ≡ Some string) × IsStringRow image string row
+  string_says k row h = let s = string_of_row k row h in (s.0, s.1, has.string_rows.each k s.0 row s.1 h)
+
+  pub string_place_passes : (k : ℕ) (row : StringRow) → slice_get image.strings k ≡ Some row → in_pool image row.name_place row.name_length ≡ true
+  string_place_passes k row h = le-leb (row.name_place + row.name_length) (length image.pool) (string_says k row h).2.inside
+
+  pub string_flags_pass : (k : ℕ) (row : StringRow) → slice_get image.strings k ≡ Some row → nat_le row.flags 3 ≡ true
+  string_flags_pass k row h =
+      let s = string_says k row h in ap (λ n. nat_le n 3) s.2.flags ∙ flags_low s.0.hidden s.0.greedy
+
+  pub string_name_passes : All IsGoodString strings → (k : ℕ) (row : StringRow) → slice_get image.strings k ≡ Some row → is_string_name (string_name image row) ≡ true
+  string_name_passes good k row h =
+      let s = string_says k row h in
+      ap is_string_name s.2.name ∙ good_name s.0.name (All-contains IsGoodString strings s.0 good (there_at strings k s.0 s.1)).0
