@@ -4,7 +4,9 @@ use crate::filling::{add_edges, add_moves, add_nodes, add_outputs, add_sets, pla
 use std::alloc::Global;
 use std::marker::Model;
 use yr_base::NoMemory;
-use yr_image::{CodeRow, NoteRow, ProgramRow, RuleRow, SplitRow, StringRow, Tables};
+use yr_image::{
+    CodeRow, EdgeRow, NodeRow, NoteRow, ProgramRow, RuleRow, SplitRow, StringRow, Tables,
+};
 use yr_program::Program;
 
 /// An image that is being made. Contracts see the image that its tables show so far. After a refusal they say nothing of it.
@@ -142,6 +144,30 @@ impl ImageDraft {
         ensures { OnOk result (self.new ≡ record self.old { splits = self.old.splits ++ row ∷ [] }) }
     {
         self.tables.splits.push(row)?;
+        Ok(())
+    }
+
+    /// Adds a node of the automaton.
+    pub fn put_node(&mut self, row: NodeRow) -> Result<(), NoMemory>
+        ensures { OnOk result (self.new ≡ record self.old { nodes = self.old.nodes ++ row ∷ [] }) }
+    {
+        self.tables.nodes.push(row)?;
+        Ok(())
+    }
+
+    /// Adds an edge of the automaton.
+    pub fn put_edge(&mut self, row: EdgeRow) -> Result<(), NoMemory>
+        ensures { OnOk result (self.new ≡ record self.old { edges = self.old.edges ++ row ∷ [] }) }
+    {
+        self.tables.edges.push(row)?;
+        Ok(())
+    }
+
+    /// Adds an output of the automaton.
+    pub fn put_output(&mut self, split: u32) -> Result<(), NoMemory>
+        ensures { OnOk result (self.new ≡ record self.old { outputs = self.old.outputs ++ split ∷ [] }) }
+    {
+        self.tables.outputs.push(split)?;
         Ok(())
     }
 
