@@ -11,7 +11,8 @@ use Rattle.yr_pattern.specs.Variants.{PlainVariant, Body}
 use Rattle.yr_pattern.specs.Variants as variant
 use Rattle.yr_rules.specs.Rules.{PlainString}
 use Rattle.yr_rules.specs.Weight.{total, string_weight, variant_weight, body_weight}
-use Rattle.yr_rules.specs.Wellformed.{IsSoundBody, IsGoodVariant}
+use Rattle.yr_pattern.specs.Variants.{IsSoundBody}
+use Rattle.yr_rules.specs.Wellformed.{IsGoodVariant}
 use Rattle.yr_atoms.specs.Splits.{Split, Piece, piece_size}
 use Rattle.yr_atoms.specs.Splits as piece
 use Rattle.yr_atoms.specs.Covers.{Covers, HaveAtomsOf, HasAtomOf, IsNoLarger, HasItsKey}

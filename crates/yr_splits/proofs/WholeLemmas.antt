@@ -238,7 +238,7 @@ stays old new placed strings grows keeps h a =
 
 -- ---- what passes
 
-both : (a b : Bool) → a ≡ true → b ≡ true → (a && b) ≡ true
+pub both : (a b : Bool) → a ≡ true → b ≡ true → (a && b) ≡ true
 both a b e f = ap₂ (λ x y. x && y) e f
 
 all_pass : (test : ℕ → Bool) (xs : List ℕ) → Each (λ b. test b ≡ true) xs → list_all test xs ≡ true
