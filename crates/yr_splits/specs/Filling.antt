@@ -1,5 +1,5 @@
 -- An image into which the strings of rules are put: a row for each string and each split, texts and programs for their sides.
-use Rattle.std.specs.Prelude.{◌≡◌, ℕ, ◌+◌, ◌*◌, ◌≤◌, Bool, true, List, ◌∷◌, [], ◌++◌, length, All, Some, slice_get}
+use Rattle.std.specs.Prelude.{◌≡◌, ℕ, ◌+◌, ◌*◌, ◌≤◌, Bool, true, List, ◌++◌, length, All, Some, slice_get}
 use Rattle.yr_pattern.specs.Variants.{PlainVariant}
 use Rattle.yr_rules.specs.Rules.{PlainString, PlainRule, PlainRules}
 use Rattle.yr_rules.specs.Weight.{total, string_weight, variant_weight}
@@ -15,7 +15,7 @@ use Rattle.yr_tables.specs.Growing.{Grows}
 use Rattle.yr_splits.specs.Programs.{AreProgramRows}
 use Rattle.yr_splits.specs.Lengths.{HaveLongAtoms, HaveLongAtomsSoFar}
 use Rattle.yr_automaton.specs.Automaton.{Rows, IsAutomatonOf}
-use Rattle.yr_splits.specs.Sizes.{total_length, piece_cost, row_cost, rows_cost, atoms_cost}
+use Rattle.yr_splits.specs.Sizes.{total_length, piece_cost, rows_cost, atoms_cost}
 
 -- the row says the string
 pub record IsStringRow (image : Image) (string : PlainString) (row : StringRow) : Type 0 where

@@ -1,0 +1,4 @@
+mod TextLemmas
+mod NoteLemmas
+mod RuleLemmas
+mod LoopLemmas
