@@ -2,3 +2,5 @@ mod TextLemmas
 mod NoteLemmas
 mod RuleLemmas
 mod LoopLemmas
+mod ListedLemmas
+mod PassLemmas

@@ -1,10 +1,13 @@
 -- What the rows of rules say.
 use Rattle.std.specs.Prelude.{◌≡◌, ℕ, ◌+◌, ◌*◌, ◌≤◌, List, length, take, drop, Some, slice_get}
-use Rattle.yr_rules.specs.Rules.{PlainRule}
+use Rattle.yr_rules.specs.Rules.{PlainString, PlainRule}
 use Rattle.yr_image.specs.declared.rows.NoteRow.{NoteRow}
 use Rattle.yr_image.specs.declared.rows.RuleRow.{RuleRow}
+use Rattle.yr_image.specs.declared.rows.StringRow.{StringRow}
 use Rattle.yr_image.specs.Image.{Image}
 use Rattle.yr_machine.specs.Rows.{end_before, notes_end}
+use Rattle.yr_machine.specs.Names.{string_name}
+use Rattle.yr_machine.specs.Listing.{has_flag}
 use Rattle.yr_listings.specs.declared.code_range.CodeRange.{CodeRange}
 use Rattle.yr_listings.specs.Notes.{IsText, SayNotes, notes_of, flag_of}
 
@@ -36,3 +39,9 @@ pub record SayRules (image : Image) (rules : List PlainRule) (codes : List CodeR
 -- a name and a namespace that are not long
 abbrev pub HasShortTexts : PlainRule → Type 0
 HasShortTexts rule = (length rule.name ≤ 128) × (length rule.space ≤ 128)
+
+-- the rows of strings have their names and whether they are private
+pub record SayNames (image : Image) (strings : List PlainString) : Type 0 where
+  pub count : length image.strings ≡ length strings
+  pub each : (k : ℕ) (string : PlainString) (row : StringRow) → slice_get strings k ≡ Some string → slice_get image.strings k ≡ Some row
+      → (string_name image row ≡ string.name) × (has_flag 1 row.flags ≡ string.hidden)
