@@ -4,3 +4,4 @@ mod RuleLemmas
 mod LoopLemmas
 mod ListedLemmas
 mod PassLemmas
+mod NameLemmas

@@ -19,7 +19,7 @@ use Rattle.yr_listings.specs.Notes.{Note, Tag, Entry, IsText, SaysValue, SaysNot
 use Rattle.yr_listings.specs.Rules.{notes_in, SaysRule, SayRules}
 use Rattle.yr_listings.specs.Codes.{range_end, FollowCodes}
 
-both : (a b : Bool) → a ≡ true → b ≡ true → (a && b) ≡ true
+pub both : (a b : Bool) → a ≡ true → b ≡ true → (a && b) ≡ true
 both a b e f = ap₂ (λ x y. x && y) e f
 
 either_left : (a b : Bool) → a ≡ true → (a || b) ≡ true
@@ -54,7 +54,7 @@ dropped_at (y ∷ xs) (suc first) k =
 part_at : {X : Type 0} (xs : List X) (first count k : ℕ) (x : X) → k < count → slice_get xs (first + k) ≡ Some x → slice_get (take count (drop first xs)) k ≡ Some x
 part_at xs first count k x b h = taken_at (drop first xs) count k x b (dropped_at xs first k ∙ h)
 
-there_too : {X Y : Type 0} (xs : List X) (ys : List Y) (k : ℕ) (x : X) → length xs ≤ length ys → slice_get xs k ≡ Some x → (y : Y) × (slice_get ys k ≡ Some y)
+pub there_too : {X Y : Type 0} (xs : List X) (ys : List Y) (k : ℕ) (x : X) → length xs ≤ length ys → slice_get xs k ≡ Some x → (y : Y) × (slice_get ys k ≡ Some y)
 there_too xs ys k x e h =
     let b : k < length xs = slice_get_within xs k x h in
     ⊎_elim (λ g. (g.0, g.2)) (λ g. absurd (omega (arith, e, b, g.0))) (slice_get_cases ys k).1
@@ -105,7 +105,7 @@ module _ (image : Image) where
       (both (nat_le row.kind 3) (is_good_value image row) v.1 v.2)
 
   -- the note that a row among others says
-  note_at : (notes : List Note) (rows : List NoteRow) (k : ℕ) (row : NoteRow) → SayNotes image notes rows → slice_get rows k ≡ Some row
+  pub note_at : (notes : List Note) (rows : List NoteRow) (k : ℕ) (row : NoteRow) → SayNotes image notes rows → slice_get rows k ≡ Some row
       → (note : Note) × (slice_get notes k ≡ Some note) × SaysNote image note row
   note_at [] [] k row h g = absurd (none-some row g)
   note_at (note ∷ notes) (first ∷ rows) zero row h g = let P : NoteRow → Type 0 = λ r. SaysNote image note r in (note, refl, subst P (same_Some first row g) h.0)

@@ -3,6 +3,7 @@
 
 mod code_range;
 mod external;
+pub mod laws;
 mod note;
 mod rule;
 
