@@ -1,0 +1,7 @@
+mod TextLemmas
+mod NoteLemmas
+mod RuleLemmas
+mod LoopLemmas
+mod ListedLemmas
+mod PassLemmas
+mod NameLemmas
