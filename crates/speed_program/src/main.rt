@@ -61,6 +61,9 @@ fn show_forms(rt: HostRuntime) -> anyhow::Result<()> {
         bail!("no memory");
     };
     let text = nested(rt.alloc(), "( 61 | 62 ", "63", ")", "")?;
+    if text.len() > 1_000 {
+        bail!("too long");
+    }
     let hex = match read_hex(rt.alloc(), &text) {
         Ok(pattern) => size(&pattern),
         Err(_) => 0,

@@ -52,8 +52,14 @@ pub fn long_option(alloc: Global, count: usize) -> Result<Vec<u8>, AllocError> {
     Ok(text)
 }
 
-/// A group with this behind it, and as many groups in it as may nest, each beginning so and ending so.
-pub fn nested(alloc: Global, begins: &str, ends: &str, after: &str) -> Result<Vec<u8>, AllocError> {
+/// A group with this behind it, and as many groups in it as may nest, each beginning so and ending so, around a middle.
+pub fn nested(
+    alloc: Global,
+    begins: &str,
+    middle: &str,
+    ends: &str,
+    after: &str,
+) -> Result<Vec<u8>, AllocError> {
     let mut text = Vec::new(alloc);
     push_each(&mut text, "(", 1)?;
     push_each(&mut text, begins, DEPTH - 1)?;
