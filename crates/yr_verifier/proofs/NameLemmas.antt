@@ -4,16 +4,16 @@ use Rattle.std.specs.Prelude.{slice_get, ◌==◌, IfSome, IfNone}
 use Rattle.std.specs.Option.{option_map_or}
 use Rattle.std.proofs.lemmas.Bool.{eqb-true}
 use Rattle.std.proofs.lemmas.Bool.Decides.{leb_tells}
-use Rattle.std.proofs.lemmas.Option.{slice_get_past}
-use Rattle.yr_image.specs.declared.rows.NoteRow.{NoteRow}
 use Rattle.yr_image.specs.Image.{Image, namespace_of}
 use Rattle.yr_image.specs.Sections.{HasSections, rows_of}
 use Rattle.yr_image.specs.Reading.{image_in}
 use Rattle.yr_machine.specs.Rows.{row_passes}
-use Rattle.yr_machine.specs.Names.{At, is_name, is_string_name, rule_name, note_name, string_name, NamePasses, IsNewName}
+use Rattle.yr_machine.specs.Names.{At, is_name, is_string_name, rule_name, note_name, string_name, NamePasses}
 use Rattle.yr_codewalk.proofs.CountLemmas.{rules_counted, notes_counted, externals_counted, strings_counted}
 use Rattle.yr_verifier.specs.Firsts.{Finds}
-use Rattle.yr_verifier.specs.Named.{is_named, IsNew, name_at, FindsRepeat}
+use Rattle.yr_repeats.specs.Names.{IsNew, FindsRepeat}
+use Rattle.yr_repeats.proofs.NewLemmas.{new_beyond}
+use Rattle.yr_verifier.specs.Named.{is_named}
 use Rattle.yr_verifier.proofs.RowLemmas.{either, row_missing}
 
 pub row_passes_at : {A : Type 0} (image : Image) (test : A → Bool) (rows : List A) (k : ℕ) → row_passes image test rows k ≡ true → At (λ row. test row ≡ true) rows k
@@ -25,11 +25,6 @@ at_row_passes {A} image test rows k h = by (slice_get rows k) refl
     by : (o : Option A) → slice_get rows k ≡ o → option_map_or test o true ≡ true
     by None e = refl
     by (Some row) e = h row e
-
-pub row_there : {A : Type 0} (rows : List A) (k : ℕ) → k < length rows → (row : A) × (slice_get rows k ≡ Some row)
-row_there [] k lt = absurd (omega (arith, lt))
-row_there (row ∷ rows) zero lt = (row, refl)
-row_there (row ∷ rows) (suc k) lt = row_there rows k (omega (arith, lt))
 
 -- what is found of one thing is found of another that holds with it
 pub finds_same : (P Q : ℕ → Type 0) → ((k : ℕ) → P k → Q k) → ((k : ℕ) → Q k → P k) → (o : Option ℕ) → Finds P o → Finds Q o
@@ -74,23 +69,6 @@ module _ (image : Image) where
   pub passes_new : (k : ℕ) → NamePasses image 2 k → IsNew image k
   passes_new k p row at = (p.externals refl row at).1
 
-  -- past the external variables there is none that is not new
-  pub new_beyond : (k : ℕ) → length image.externals ≤ k → IsNew image k
-  new_beyond k le row at = let none = slice_get_past image.externals k le in cc (none, at)
-
-  named_at : (k : ℕ) (row : NoteRow) → slice_get image.externals k ≡ Some row → name_at image k ≡ note_name image row
-  named_at k row at = ap (λ o. option_map_or (note_name image) o []) at
-
-  -- a name is new where no earlier one is the same
-  pub new_from : (k : ℕ) → ((j : ℕ) → j < k → name_at image j ≢ name_at image k) → IsNew image k
-  new_from k h row at j lt other there same = h j lt (named_at j other there ∙ same ∙ sym (named_at k row at))
-
-  pub new_says : (k : ℕ) → k < length image.externals → IsNew image k → (j : ℕ) → j < k → name_at image j ≢ name_at image k
-  new_says k here new j lt same =
-      let row = row_there image.externals k here in
-      let other = row_there image.externals j (omega (arith, lt, here)) in
-      new row.0 row.1 j lt other.0 other.1 (sym (named_at j other.0 other.1) ∙ same ∙ named_at k row.0 row.1)
-
   -- below the first bad name, or where there is none
   pub named_below : (bad : Option ℕ) (end : ℕ) → Finds (λ k. is_named image 2 k ≡ true) bad → IfSome bad (λ k. end ≡ k) → (j : ℕ) → j < end → is_named image 2 j ≡ true
   named_below None end found e j lt = found j
@@ -104,7 +82,7 @@ module _ (image : Image) where
   pub bad_found : (bad : Option ℕ) (end count : ℕ) → Finds (λ k. is_named image 2 k ≡ true) bad → IfSome bad (λ k. end ≡ k) → IfNone bad (end ≡ count) → count ≡ length image.externals
       → FindsRepeat image end None → Finds (NamePasses image 2) bad
   bad_found None end count found e all n r = λ k. named_passes 2 k (found k)
-      (λ _. ⊎_elim (λ t. new_beyond k (omega (arith, t.1, all, n))) (λ t. r k (omega (arith, t.1))) (leb_tells end k))
+      (λ _. ⊎_elim (λ t. new_beyond image k (omega (arith, t.1, all, n))) (λ t. r k (omega (arith, t.1))) (leb_tells end k))
   bad_found (Some b) end count found e all n r =
       (λ p. found.0 (passes_named 2 b p), λ j lt. named_passes 2 j (found.1 j lt) (λ _. r j (omega (arith, lt, e))))
 

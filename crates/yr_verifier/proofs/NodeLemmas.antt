@@ -9,7 +9,6 @@ use Rattle.yr_image.specs.Image.{Image}
 use Rattle.yr_machine.specs.Automaton.{HasAtomOf, IsNode, NodePasses}
 use Rattle.yr_codewalk.proofs.RangeLemmas.{range_place, range_length}
 use Rattle.yr_verifier.specs.Nodes.{HasRanges, HasDepth, LeadsDeeper, AllLeadDeeper, HaveAtoms}
-use Rattle.yr_verifier.proofs.NameLemmas.{row_there}
 
 module _ (image : Image) where
   pub node_here : (n : ℕ) (row : NodeRow) → slice_get image.nodes n ≡ Some row → IsNode image n row → NodePasses image n

@@ -3,6 +3,7 @@ use Rattle.std.proofs.Common.{◌≡◌, ℕ, ◌+◌, ◌<◌, ◌≤◌, ◌�
 use Rattle.std.proofs.lemmas.Bool.{cases_order}
 use Rattle.yr_image.specs.declared.fault.ImageFault.{ImageFault}
 use Rattle.yr_image.specs.declared.fault.ImageFault.TheVariants.{TooShort, Magic, Version, Length, Section, Index, Name, Code, ProgramBad, Node}
+use Rattle.yr_image.specs.Sections.{HasSections}
 use Rattle.yr_machine.specs.Wellformed.{Passes, check_of, first_number, second_number, ComesBefore, IsFirstFault, IsWellformed}
 use Rattle.yr_verifier.specs.Firsts.{Finds, Reaches}
 
@@ -99,6 +100,16 @@ module _ (bytes : List ℕ) where
 
   pub all_pass : Reaches bytes 11 0 → IsWellformed bytes
   all_pass before f = before f (inl (some_check f).1)
+
+  -- past the check of the sections the header and the sections fit
+  pub reach_sections : Reaches bytes 6 0 → HasSections bytes
+  reach_sections before = record {
+    long_enough = before TooShort (inl (omega arith));
+    magic_bytes = before Magic (inl (omega arith));
+    version = before Version (inl (omega arith));
+    whole = before Length (inl (omega arith));
+    sections = λ k. before (Section k) (inl (omega arith));
+  }
 
   module _ (c : ℕ) (F : ℕ → ImageFault) (is : IsOne c F) where
     pub one_next : (n : ℕ) → Reaches bytes c n → Passes bytes (F n) → Reaches bytes c (n + 1)

@@ -1,9 +1,8 @@
--- Names: which rows have good ones, and which external variables' are new.
-use Rattle.std.specs.Prelude.{ℕ, ◌<◌, ◌==◌, ◌&&◌, Bool, true, if◌then◌else◌, List, [], Option, Some, None, slice_get}
-use Rattle.std.specs.Option.{option_map_or}
+-- Rows that have good names.
+use Rattle.std.specs.Prelude.{ℕ, ◌==◌, ◌&&◌, Bool, true, if◌then◌else◌}
 use Rattle.yr_image.specs.Image.{Image, namespace_of}
 use Rattle.yr_machine.specs.Rows.{row_passes}
-use Rattle.yr_machine.specs.Names.{At, is_name, is_string_name, rule_name, note_name, string_name, IsNewName}
+use Rattle.yr_machine.specs.Names.{is_name, is_string_name, rule_name, note_name, string_name}
 
 module _ (image : Image) where
   -- row k of a section has good names, or is not there
@@ -14,16 +13,3 @@ module _ (image : Image) where
       else if section == 2 then row_passes image (λ row. is_name (note_name image row)) image.externals k
       else if section == 3 then row_passes image (λ row. is_string_name (string_name image row)) image.strings k
       else true
-
-  -- no external variable before number k has its name
-  abbrev pub IsNew : ℕ → Type 0
-  IsNew k = At (IsNewName image k) image.externals k
-
-  -- the name of external variable k
-  abbrev pub name_at : ℕ → List ℕ
-  name_at k = option_map_or (note_name image) (slice_get image.externals k) []
-
-  -- the first external variable below an end whose name is not new, None where all are
-  abbrev pub FindsRepeat : (end : ℕ) → Option ℕ → Type 0
-  FindsRepeat end None = (k : ℕ) → k < end → IsNew k
-  FindsRepeat end (Some k) = (k < end) × (IsNew k → ⊥) × ((j : ℕ) → j < k → IsNew j)

@@ -9,7 +9,6 @@ mod naming;
 mod nodes;
 mod programs;
 mod reading;
-mod repeats;
 mod rows;
 mod sections;
 mod verifying;

@@ -1,6 +1,6 @@
 //! The check of the automaton's nodes.
 
-ghost use Rattle.std.specs.Prelude.{◌≡◌, ◌↔◌, ◌<◌, ◌≤◌, ◌+◌, ◌^◌, IsTrue, length, take, drop};
+ghost use Rattle.std.specs.Prelude.{◌≡◌, ◌↔◌, ◌<◌, ◌≤◌, ◌+◌, IsTrue, length, take, drop};
 ghost use Rattle.yr_rows.specs.Nodes.{end_before, edges_end, outputs_end, BytesRise};
 ghost use Rattle.yr_image.specs.Views.{image_of, shown_bytes};
 ghost use Rattle.yr_machine.specs.Automaton.{HasAtomOf, IsNode, NodePasses};
@@ -75,10 +75,10 @@ fn has_depth(view: &ImageView, n: u32, row: NodeRow) -> bool
 
 // Whether the bytes of so many edges rise.
 fn bytes_rise(view: &ImageView, first: u32, count: u32) -> bool
-    requires inside { first + count ≤ length (image_of view.now).edges }
-    requires small { first + count < 2 ^ 32 }
+    requires { first + count ≤ length (image_of view.now).edges }
     ensures { IsTrue result ↔ BytesRise (take count (drop first (image_of view.now).edges)) }
 {
+    let _all = count_edges(view);
     for k in 1..count {
         if edge(view, first + k - 1).byte >= edge(view, first + k).byte {
             return false;
@@ -99,10 +99,10 @@ fn leads_deeper(view: &ImageView, depth: u32, row: EdgeRow) -> bool
 
 // Whether so many edges lead one deeper.
 fn all_lead_deeper(view: &ImageView, depth: u32, first: u32, count: u32) -> bool
-    requires inside { first + count ≤ length (image_of view.now).edges }
-    requires small { first + count < 2 ^ 32 }
+    requires { first + count ≤ length (image_of view.now).edges }
     ensures { IsTrue result ↔ AllLeadDeeper (image_of view.now) depth (take count (drop first (image_of view.now).edges)) }
 {
+    let _all = count_edges(view);
     for k in 0..count {
         if !leads_deeper(view, depth, edge(view, first + k)) {
             return false;
@@ -123,10 +123,10 @@ fn has_atom(view: &ImageView, depth: u32, split: u32) -> bool
 
 // Whether the atoms of so many outputs have a depth as their length.
 fn have_atoms(view: &ImageView, depth: u32, first: u32, count: u32) -> bool
-    requires inside { first + count ≤ length (image_of view.now).outputs }
-    requires small { first + count < 2 ^ 32 }
+    requires { first + count ≤ length (image_of view.now).outputs }
     ensures { IsTrue result ↔ HaveAtoms (image_of view.now) depth (take count (drop first (image_of view.now).outputs)) }
 {
+    let _all = count_outputs(view);
     for k in 0..count {
         if !has_atom(view, depth, output(view, first + k)) {
             return false;
@@ -139,11 +139,19 @@ fn is_node(view: &ImageView, n: u32, row: NodeRow) -> bool
     requires { n < length (image_of view.now).nodes }
     ensures { IsTrue result ↔ IsNode (image_of view.now) n row }
 {
-    has_ranges(view, n, row)
-        && has_depth(view, n, row)
-        && bytes_rise(view, row.first_edge, row.edges)
-        && all_lead_deeper(view, row.depth, row.first_edge, row.edges)
-        && have_atoms(view, row.depth, row.first_output, row.outputs)
+    if !has_ranges(view, n, row) {
+        return false;
+    }
+    if !has_depth(view, n, row) {
+        return false;
+    }
+    if !bytes_rise(view, row.first_edge, row.edges) {
+        return false;
+    }
+    if !all_lead_deeper(view, row.depth, row.first_edge, row.edges) {
+        return false;
+    }
+    have_atoms(view, row.depth, row.first_output, row.outputs)
 }
 
 /// The tenth check.

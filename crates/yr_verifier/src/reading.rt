@@ -1,11 +1,12 @@
 //! Rows and names of an image that a view gives no reader for.
 
-ghost use Rattle.std.specs.Prelude.{◌≡◌, ◌<◌, ◌≤◌, ◌+◌, length, drop, min, slice_get, Some};
-ghost use Rattle.yr_image.specs.Image.{pool_text, namespace_of};
+ghost use Rattle.std.specs.Prelude.{◌≡◌, ◌<◌, ◌≤◌, ◌+◌, length, drop, slice_get, Some};
+ghost use Rattle.yr_image.specs.Image.{namespace_of};
 ghost use Rattle.yr_image.specs.Views.{image_of, shown_bytes};
 ghost use Rattle.yr_image.specs.Reading.{zeros_in, split_zeros};
 
 use yr_image::{EdgeRow, ImageView, NodeRow, RuleRow};
+use yr_repeats::text;
 use yr_rows::{edge_at, node_at, number_at, output_at};
 
 /// Node n.
@@ -53,22 +54,6 @@ fn zeros(row: &[u8]) -> u64
     ensures { result ≡ split_zeros row.now }
 {
     u64::from(row[10]) + u64::from(row[11]) * 0x100 + u64::from(number_at(row, 28))
-}
-
-fn least(a: usize, b: usize) -> usize
-    ensures { result ≡ min a b }
-{
-    if a < b { a } else { b }
-}
-
-/// The bytes of a range of the pool that are there.
-pub fn text<'a>(view: &ImageView<'a>, place: u32, length: u32) -> &'a [u8]
-    ensures { result.now ≡ pool_text (image_of view.now) place length }
-{
-    let pool = view.bytes_of(13);
-    let start = least(place as usize, pool.len());
-    let count = least(length as usize, pool.len() - start);
-    &pool[start..start + count]
 }
 
 /// The namespace of a rule.

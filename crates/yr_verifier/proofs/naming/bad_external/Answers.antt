@@ -14,4 +14,4 @@ returns-in-Some c =
 pub returns-in-None : goal.returns-in-None
 returns-in-None c =
     bad_found (image_of c.args.view.now) c.bad_name-bad.result c.number_or-end.result c.count_externals.result c.bad_name-bad.ensures c.number_or-end.ensures.some
-    c.number_or-end.ensures.none c.count_externals.ensures (c.in-None.ensures tt)
+    c.number_or-end.ensures.none c.count_externals.ensures c.in-None.ensures

@@ -1,7 +1,7 @@
 use Rattle.std.proofs.Common.{sym, ◌∙◌, refl, arith, true≢false, below_more}
 use Rattle.yr_image.specs.Views.{image_of}
-use Rattle.yr_verifier.proofs.NameLemmas.{new_from, new_says}
-use Rattle.yr_verifier.proofs.repeats.is_new.Goals as goal
+use Rattle.yr_repeats.proofs.NewLemmas.{new_from, new_says}
+use Rattle.yr_repeats.proofs.repeating.is_new.Goals as goal
 
 pub returns-then-same : goal.returns-then-same
 returns-then-same c = (

@@ -1,6 +1,6 @@
-use Rattle.std.proofs.Common.{◌≡◌, ◌+◌, ◌-◌, take, drop, length, min, refl, sym, ap, ◌∙◌, arith}
+use Rattle.std.proofs.Common.{◌≡◌, ◌+◌, ◌-◌, take, drop, length, min, refl, ap, ◌∙◌, arith}
 use Rattle.yr_codewalk.proofs.RangeLemmas.{range_clipped}
-use Rattle.yr_verifier.proofs.reading.text.Goals as goal
+use Rattle.yr_repeats.proofs.name.text.Goals as goal
 
 pub returns : goal.returns
 returns c =
