@@ -1,5 +1,5 @@
 -- What the code keeps of meanings, open loops, uses and what stands round a rule, as plain data.
-use Rattle.std.specs.Prelude.{ℕ, List, [], ◌∷◌, ◌++◌, map, filter, Option, Some, None, if◌then◌else◌, bytes_eq}
+use Rattle.std.specs.Prelude.{ℕ, Bool, true, false, List, [], ◌∷◌, ◌++◌, map, filter, Option, Some, None, if◌then◌else◌, bytes_eq}
 use Rattle.yr_syntax.specs.Condition.{regex_of}
 use Rattle.yr_values.specs.Names.{NamedModule, module_shown}
 use Rattle.yr_rules.specs.Rules.{external_of}
@@ -71,3 +71,8 @@ abbrev pub own_meaning : Name → ℕ → Scope → Option Meaning
 own_meaning w round Members = None
 own_meaning w round (Numbers v) = if bytes_eq w v then Some (Variable round) else None
 own_meaning w round (Entries v m path) = if bytes_eq w v then Some (Entry m path (OfLoop round)) else None
+
+abbrev pub is_over_members : Scope → Bool
+is_over_members Members = true
+is_over_members (Numbers v) = false
+is_over_members (Entries v m path) = false

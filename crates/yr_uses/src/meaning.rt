@@ -57,9 +57,9 @@ pub enum Meaning<'a> {
 }
 
 /// What a row names.
-fn row_meaning<'a>(module: &'a Module, index: Index, found: Option<&'a ModuleRow>) -> Meaning<'a>
-    ensures { (path : _) → IfSome found (λ r. path ≡ r.now.path.items)
-        → shown result ≡ spec.row_meaning (module_shown module.now) path (index_of index) (option_map (λ r. r.now.entry) found) }
+fn row_meaning<'a>(owner: &'a Module, index: Index, found: Option<&'a ModuleRow>) -> Meaning<'a>
+    ensures { (path : _) → IfSome found.entry (λ r. path ≡ r.now.path.items)
+        → shown result ≡ spec.row_meaning (module_shown owner.now) path (index_of index) (option_map (λ r. r.now.entry) found.entry) }
 {
     let Some(row) = found else {
         return Meaning::Unknown;
@@ -68,7 +68,7 @@ fn row_meaning<'a>(module: &'a Module, index: Index, found: Option<&'a ModuleRow
         ModuleEntry::Constant(number) => Meaning::Constant(number),
         ModuleEntry::Field { id, kind } => Meaning::Field { id, kind, index },
         ModuleEntry::Array { count } => Meaning::Array {
-            module,
+            module: owner,
             path: &row.path,
             count,
         },
@@ -78,7 +78,7 @@ fn row_meaning<'a>(module: &'a Module, index: Index, found: Option<&'a ModuleRow
 
 /// What a path leads to with a name behind it: a field of a module, or of an entry.
 pub fn then_name<'a>(before: Meaning<'a>, word: &[u8]) -> Meaning<'a>
-    ensures { shown result ≡ spec.then_name (shown before) word.now }
+    ensures { shown result ≡ spec.then_name (shown before.entry) word.now }
 {
     match before {
         Meaning::Module(module) => {
@@ -95,7 +95,7 @@ pub fn then_name<'a>(before: Meaning<'a>, word: &[u8]) -> Meaning<'a>
 
 /// The same with an index behind it: an entry of an array.
 pub fn then_index(before: Meaning<'_>) -> Meaning<'_>
-    ensures { shown result ≡ spec.then_index (shown before) }
+    ensures { shown result ≡ spec.then_index (shown before.entry) }
 {
     match before {
         Meaning::Array { module, path, .. } => Meaning::Entry {
@@ -109,7 +109,7 @@ pub fn then_index(before: Meaning<'_>) -> Meaning<'_>
 
 /// The same with so many arguments behind it: a call has two.
 pub fn then_call(before: Meaning<'_>, arguments: usize) -> Meaning<'_>
-    ensures { shown result ≡ spec.then_call (shown before) arguments }
+    ensures { shown result ≡ spec.then_call (shown before.entry) arguments }
 {
     match before {
         Meaning::Function { id, kind } => {

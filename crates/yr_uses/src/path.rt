@@ -1,31 +1,39 @@
 //! What paths lead to.
 
 ghost use Rattle.std.specs.Prelude.{◌≡◌, map};
-ghost use Rattle.yr_syntax.specs.Condition.{step_of, steps_of, domain_of};
+ghost use Rattle.yr_syntax.specs.Condition.{tree_of, items_of, step_of, steps_of, domain_of};
 ghost use Rattle.yr_uses.specs.Around.{around_of};
 ghost use Rattle.yr_uses.specs.Meanings as spec;
 ghost use Rattle.yr_uses.specs.Paths.{start_meaning, step_meaning};
 ghost use Rattle.yr_uses.specs.Views.{scope_of, shown};
 
-use crate::around::{Around, word_meaning};
+use crate::around::Around;
 use crate::meaning::{Meaning, then_call, then_index, then_name};
 use crate::scopes::{Scope, Scopes};
-use yr_syntax::{Over, PathStep};
+use crate::word::word_meaning;
+use yr_syntax::{Cond, Over, PathStep};
+
+/// How many arguments there are, or items of a list.
+pub fn count(conditions: &[Cond]) -> usize
+    ensures { result ≡ spec.count_of (items_of (map tree_of conditions.now)) }
+{
+    conditions.len()
+}
 
 /// What a path leads to with one more part behind it.
 fn then_step<'a>(before: Meaning<'a>, step: &PathStep) -> Meaning<'a>
-    ensures { shown result ≡ step_meaning (step_of step.now) (shown before) }
+    ensures { shown result ≡ step_meaning (step_of step.now) (shown before.entry) }
 {
     match step {
         PathStep::Name(word) => then_name(before, word),
         PathStep::Index(_) => then_index(before),
-        PathStep::Call(arguments) => then_call(before, arguments.len()),
+        PathStep::Call(arguments) => then_call(before, count(arguments)),
     }
 }
 
 /// What a path leads to from here.
 fn steps_meaning<'a>(steps: &[PathStep], start: Meaning<'a>) -> Meaning<'a>
-    ensures { shown result ≡ spec.steps_meaning (steps_of (map step_of steps.now)) (shown start) }
+    ensures { shown result ≡ spec.steps_meaning (steps_of (map step_of steps.now)) (shown start.entry) }
 {
     let mut meaning = start;
     for step in steps {

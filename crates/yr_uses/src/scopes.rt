@@ -3,7 +3,7 @@
 ghost use Rattle.std.specs.Prelude.{◌≡◌, ◌∷◌, [], OnOk, drop, length, map};
 ghost use Rattle.std.specs.Option.{option_map};
 ghost use Rattle.yr_uses.specs.Meanings as spec;
-ghost use Rattle.yr_uses.specs.Views.{innermost_first, own_meaning, scope_of, shown};
+ghost use Rattle.yr_uses.specs.Views.{innermost_first, is_over_members, own_meaning, scope_of, shown};
 
 use crate::meaning::{Index, Meaning};
 use std::alloc::Global;
@@ -47,7 +47,7 @@ impl<'a> Scopes<'a> {
     }
 
     pub fn enter(&mut self, inner: Scope<'a>) -> Result<(), NoMemory>
-        ensures { OnOk result (self.new ≡ scope_of inner ∷ self.old) }
+        ensures { OnOk result (self.new ≡ scope_of inner.entry ∷ self.old) }
     {
         self.loops.push(inner)?;
         Ok(())
@@ -83,7 +83,7 @@ impl<'a> Scopes<'a> {
 
 /// What the word means as the variable of a loop, whose number this is.
 fn variable_of<'a>(scope: Scope<'a>, number: usize, word: &[u8]) -> Option<Meaning<'a>>
-    ensures { option_map shown result ≡ own_meaning word.now number (scope_of scope) }
+    ensures { option_map shown result ≡ own_meaning word.now number (scope_of scope.entry) }
 {
     match scope {
         Scope::Members => None,
@@ -122,13 +122,22 @@ fn variable_in<'a>(loops: &[Scope<'a>], word: &[u8]) -> Option<Meaning<'a>>
     None
 }
 
+fn is_members(scope: Scope<'_>) -> bool
+    ensures { result ≡ is_over_members (scope_of scope.entry) }
+{
+    match scope {
+        Scope::Members => true,
+        _ => false,
+    }
+}
+
 fn current_in(loops: &[Scope<'_>]) -> Option<usize>
     ensures { result ≡ spec.current_of (innermost_first (map scope_of loops.now)) }
 {
     let mut left = loops.len();
     while left > 0 {
         left -= 1;
-        if let Scope::Members = loops[left] {
+        if is_members(loops[left]) {
             return Some(left);
         }
     }

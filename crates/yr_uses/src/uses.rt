@@ -57,7 +57,7 @@ impl<'a> Uses<'a> {
     }
 
     pub fn push(&mut self, used: Use<'a>) -> Result<(), NoMemory>
-        ensures { OnOk result (self.new ≡ self.old ++ use_of used ∷ []) }
+        ensures { OnOk result (self.new ≡ self.old ++ use_of used.entry ∷ []) }
     {
         self.all.push(used)?;
         Ok(())

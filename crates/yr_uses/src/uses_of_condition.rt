@@ -9,12 +9,13 @@ ghost use Rattle.yr_uses.specs.Parts.{index_uses, range_uses, one_uses};
 ghost use Rattle.yr_uses.specs.Paths.{step_meaning};
 ghost use Rattle.yr_uses.specs.Views.{shown};
 
-use crate::around::{Around, word_meaning};
+use crate::around::Around;
 use crate::meaning::{Meaning, then_call, then_index, then_name};
-use crate::path::opened;
+use crate::path::{count, opened};
 use crate::prefix::behind_prefixes;
 use crate::scopes::{Scope, Scopes};
 use crate::uses::{Use, Uses};
+use crate::word::word_meaning;
 use std::alloc::Global;
 use yr_base::NoMemory;
 use yr_syntax::{Cond, Link, Over, PathStep, Place, Quant, Range, SetItem, SetRef};
@@ -71,7 +72,7 @@ fn add_word<'a>(
     meaning: Meaning<'a>,
     uses: &mut Uses<'a>,
 ) -> Result<(), NoMemory>
-    ensures { OnOk result (uses.new ≡ uses.old ++ spec.word_uses word.now (shown meaning)) }
+    ensures { OnOk result (uses.new ≡ uses.old ++ spec.word_uses word.now (shown meaning.entry)) }
 {
     match meaning {
         Meaning::Unknown => uses.push(Use::Unknown(word)),
@@ -197,7 +198,7 @@ fn add_step_uses<'a>(
     uses: &mut Uses<'a>,
 ) -> Result<(), NoMemory>
     ensures scopes { OnOk result (scopes.new ≡ scopes.old) }
-    ensures uses { OnOk result (uses.new ≡ uses.old ++ spec.step_uses (around_of around.now) (steps_of (map step_of steps.now)) (shown start) scopes.old) }
+    ensures uses { OnOk result (uses.new ≡ uses.old ++ spec.step_uses (around_of around.now) (steps_of (map step_of steps.now)) (shown start.entry) scopes.old) }
 {
     let mut meaning = start;
     for step in steps {
@@ -216,8 +217,8 @@ fn add_one_step<'a>(
     uses: &mut Uses<'a>,
 ) -> Result<Meaning<'a>, NoMemory>
     ensures scopes { OnOk result (scopes.new ≡ scopes.old) }
-    ensures uses { OnOk result (uses.new ≡ uses.old ++ one_uses (around_of around.now) (step_of step.now) (shown before) scopes.old) }
-    ensures meaning { IfOk result (λ m. shown m ≡ step_meaning (step_of step.now) (shown before)) }
+    ensures uses { OnOk result (uses.new ≡ uses.old ++ one_uses (around_of around.now) (step_of step.now) (shown before.entry) scopes.old) }
+    ensures meaning { IfOk result (λ m. shown m ≡ step_meaning (step_of step.now) (shown before.entry)) }
 {
     match step {
         PathStep::Name(word) => {
@@ -231,7 +232,7 @@ fn add_one_step<'a>(
         }
         PathStep::Call(arguments) => {
             add_item_uses(around, arguments, scopes, uses)?;
-            Ok(then_call(before, arguments.len()))
+            Ok(then_call(before, count(arguments)))
         }
     }
 }
@@ -327,7 +328,7 @@ fn add_asked_uses<'a>(
 {
     match quant {
         Quant::All | Quant::Any | Quant::Nil => Ok(()),
-        Quant::Number(count) | Quant::Percent(count) => add_uses(around, count, scopes, uses),
+        Quant::Number(asked) | Quant::Percent(asked) => add_uses(around, asked, scopes, uses),
     }
 }
 
@@ -344,7 +345,7 @@ fn add_domain_uses<'a>(
     match over {
         Over::Range(range) => add_bounds_uses(around, range, scopes, uses),
         Over::List(items) => {
-            uses.push(Use::Listed(items.len()))?;
+            uses.push(Use::Listed(count(items)))?;
             add_item_uses(around, items, scopes, uses)
         }
         Over::Path(steps) => add_path_uses(around, steps, scopes, uses),

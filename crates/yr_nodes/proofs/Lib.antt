@@ -1,0 +1,4 @@
+pub mod ReaderLemmas
+pub mod FixedLemmas
+pub mod LowLemmas
+pub mod ShapeLemmas

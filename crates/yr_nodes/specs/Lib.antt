@@ -1,0 +1,7 @@
+pub mod Readers
+pub mod Nodes
+pub mod Fixed
+pub mod Answers
+pub mod Shapes
+pub mod Views
+pub mod Room
