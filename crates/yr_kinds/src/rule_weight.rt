@@ -53,7 +53,7 @@ fn variants_weight(variants: &[Variant]) -> u64
 }
 
 /// The weight of a string with its variants.
-fn string_weight(string: &CheckedString) -> u64
+pub fn string_weight(string: &CheckedString) -> u64
     ensures { result ≡ min (spec.string_weight (string_of string.now)) (2 ^ 64 - 1) }
 {
     (string.name.len() as u64)

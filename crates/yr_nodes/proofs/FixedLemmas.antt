@@ -4,11 +4,7 @@ use Rattle.std.proofs.Math.Path.{fun_ext}
 use Rattle.yr_pattern.specs.Tree.{Tree}
 use Rattle.yr_nodes.specs.Readers.{Readers, Read, HexRefusal, RegexRefusal, Expression}
 use Rattle.yr_nodes.specs.Fixed.{the_readers}
-use Rattle.yr_nodes.proofs.ReaderLemmas.{some_readers, one-answer}
-
-pub the-read : Read the_readers
-unfolding the_readers
-the-read = some_readers.1
+use Rattle.yr_nodes.proofs.ReaderLemmas.{the-read, one-answer}
 
 -- readers that read are the fixed ones
 pub one-readers : (readers : Readers) → Read readers → readers ≡ the_readers

@@ -2,3 +2,4 @@ pub mod ReaderLemmas
 pub mod FixedLemmas
 pub mod LowLemmas
 pub mod ShapeLemmas
+pub mod NumberLemmas

@@ -358,7 +358,7 @@ fn steps_behind<'a>(
     scopes: &mut Scopes<'a>,
 ) -> Result<Option<Node>, NoMemory>
     requires room { IsRoomy exact around.now }
-    requires known { IsLow (length scopes.old) (length around.now.externals.now) (shown start.entry) }
+    requires known { IsLow (length scopes.old) (length around.now.externals.now) (shown start) }
     requires forms { forms.StepsHaveForms (tree.steps_of (map tree.step_of steps.now)) }
     requires low { height.steps_height (tree.steps_of (map tree.step_of steps.now)) + length scopes.old ≤ forms.height_limit }
     ensures scopes { OnOk result (scopes.new ≡ scopes.old) }

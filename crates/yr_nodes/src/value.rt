@@ -107,7 +107,7 @@ pub fn value(
     meaning: Meaning<'_>,
     written: Vec<Option<Node>>,
 ) -> Result<Option<Node>, NoMemory>
-    requires low { IsLow (2 ^ 32) (length externals.now) (shown meaning.entry) }
+    requires low { IsLow (2 ^ 32) (length externals.now) (shown meaning) }
     requires few { exact ≡ true → length externals.now ≤ 2 ^ 32 }
     ensures { IfOk result (λ n. option_map tree_of n ≡ value_shape exact (map external_of externals.now) (shown meaning.entry) (written_of written.items)) }
 {

@@ -1,7 +1,10 @@
 -- What the code keeps of findings, as plain data.
-use Rattle.std.specs.Prelude.{ℕ, List, [], ◌∷◌}
+use Rattle.std.specs.Prelude.{◌≡◌, ℕ, false, List, [], ◌∷◌}
 use Rattle.yr_names.specs.Names.{Name, with_star}
-use Rattle.yr_syntax.specs.Forms.{IsShortText}
+use Rattle.yr_syntax.specs.Declaration.{StringTree, kind_of}
+use Rattle.yr_syntax.specs.Forms.{IsShortText, StringHasForms}
+use Rattle.yr_text.specs.Checked.{checked}
+use Rattle.yr_types.specs.Patterns.{is_empty_text, is_refused}
 use Rattle.yr_uses.specs.Uses as use'
 use Rattle.yr_uses.specs.Uses.{Use}
 use Rattle.yr_types.specs.Given.{Finding}
@@ -28,3 +31,9 @@ HasShortText (use'.Earlier n wild) = Unit {0}
 HasShortText (use'.Unknown w) = Unit {0}
 HasShortText (use'.Loop round) = Unit {0}
 HasShortText (use'.Listed items) = Unit {0}
+
+-- a string with its forms, a text with a byte, and modifiers without a fault
+pub record IsSoundString (s : StringTree) : Type 0 where
+  pub forms : StringHasForms s
+  pub text : is_empty_text s.body ≡ false
+  pub modifiers : is_refused (checked s.modifiers (kind_of s.body)) ≡ false

@@ -5,6 +5,10 @@ use Rattle.yr_types.specs.declared.check.Check.TheVariants as check
 use Rattle.yr_types.specs.Sources.{PlacedRule}
 use Rattle.yr_types.specs.Given.{Given, Finding}
 use Rattle.yr_types.specs.Checks.{rule_finding}
+use Rattle.yr_types.specs.Findings.{finding_of}
+use Rattle.yr_types.specs.Refusals.{PlainRefusal, at_rule}
+use Rattle.yr_types.specs.declared.stages.Fault.{Fault}
+use Rattle.std.specs.Option.{option_map}
 
 abbrev pub early_finding : Given → PlacedRule → Check → Option Finding
 early_finding given p check.Imports = None
@@ -45,3 +49,13 @@ late_finding given p check.LoopDepth = rule_finding given p check.LoopDepth
 late_finding given p check.ListLength = rule_finding given p check.ListLength
 late_finding given p check.Counts = rule_finding given p check.Counts
 late_finding given p check.Weight = None
+
+abbrev pub early_fault : Given → PlacedRule → Check → Option PlainRefusal
+early_fault given p c = option_map (at_rule p c) (early_finding given p c)
+
+abbrev pub late_fault : Given → PlacedRule → Check → Option PlainRefusal
+late_fault given p c = option_map (at_rule p c) (late_finding given p c)
+
+-- the refusal that a fault of the code stands for
+abbrev pub fault_at : PlacedRule → Fault → PlainRefusal
+fault_at p f = at_rule p f.check (finding_of f.finding)

@@ -27,7 +27,7 @@ use yr_text::{Modifiers, check_modifiers, variants};
 
 /// A string as it is read.
 #[derive(Drop)]
-pub struct ReadString<'a> {
+pub struct PatternRead<'a> {
     /// Why the pattern of a hex string cannot be read.
     pub bad_hex: Option<Finding<'a>>,
     /// The same of an expression.
@@ -98,7 +98,7 @@ fn read_hex_string<'a>(
     alloc: Global,
     name: &'a [u8],
     text: &[u8],
-) -> Result<ReadString<'a>, NoMemory>
+) -> Result<PatternRead<'a>, NoMemory>
     requires { IsShortText text.now }
     ensures bad_hex { IfOk result (λ r. option_map finding_of r.bad_hex ≡ hex_finding (with_sign name.now) (the_readers.hex text.now)) }
     ensures bad_regex { IfOk result (λ r. r.bad_regex ≡ None) }
@@ -118,7 +118,7 @@ fn read_hex_string<'a>(
             place: Some(place),
         }),
     };
-    Ok(ReadString {
+    Ok(PatternRead {
         bad_hex,
         bad_regex: None,
         greedy: false,
@@ -148,7 +148,7 @@ fn read_regex_string<'a>(
     name: &'a [u8],
     regex: &RegexText,
     modifiers: &Modifiers,
-) -> Result<ReadString<'a>, NoMemory>
+) -> Result<PatternRead<'a>, NoMemory>
     requires { IsShortText regex.now.text.items }
     ensures bad_hex { IfOk result (λ r. r.bad_hex ≡ None) }
     ensures bad_regex { IfOk result (λ r. option_map finding_of r.bad_regex ≡ regex_finding (with_sign name.now) (spec.string_expression the_readers (regex_of regex.now) modifiers.now)) }
@@ -162,7 +162,7 @@ fn read_regex_string<'a>(
         RegexAnswer::Expression { pattern, greedy } => (greedy, shapes(alloc, pattern, modifiers)?),
         _ => (false, Vec::new(alloc)),
     };
-    Ok(ReadString {
+    Ok(PatternRead {
         bad_hex: None,
         bad_regex,
         greedy,
@@ -175,7 +175,7 @@ pub fn read_string<'a>(
     alloc: Global,
     string: &'a StringDecl,
     modifiers: &Modifiers,
-) -> Result<ReadString<'a>, NoMemory>
+) -> Result<PatternRead<'a>, NoMemory>
     requires forms { StringHasForms (string_of string.now) }
     requires modifiers { modifiers.now ≡ spec.modifiers_of (string_of string.now) }
     requires text { is_empty_text (body_of string.now.body) ≡ false }
@@ -185,7 +185,7 @@ pub fn read_string<'a>(
     ensures variants { IfOk result (λ r. map variant_of r.variants.items ≡ spec.string_variants the_readers (string_of string.now)) }
 {
     match &string.body {
-        StringBody::Text(text) => Ok(ReadString {
+        StringBody::Text(text) => Ok(PatternRead {
             bad_hex: None,
             bad_regex: None,
             greedy: false,
