@@ -6,7 +6,7 @@ use Rattle.yr_base.specs.declared.value.Kind.{Kind}
 use Rattle.yr_values.specs.declared.names.ModuleEntry.{ModuleEntry}
 use Rattle.yr_values.specs.declared.names.ModuleEntry.TheVariants as row
 use Rattle.yr_values.specs.Names.{NamedModule}
-use Rattle.yr_names.specs.Names.{Name, place_of}
+use Rattle.yr_numbered.specs.Names.{Name, place_of}
 use Rattle.yr_uses.specs.Meanings as meaning
 use Rattle.yr_uses.specs.Meanings.{Around, EarlierRule, Scope, Members, Numbers, Entries, Meaning, Index, NoIndex, OfLoop, Written, meaning_of, variable_meaning, module_named, rule_named, row_named, row_meaning, member_meaning, then_name, then_index, then_call, current_of}
 use Rattle.yr_nodes.specs.Views.{IsLow, IsLowIndex}

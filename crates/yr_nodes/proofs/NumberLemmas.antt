@@ -3,7 +3,7 @@ use Rattle.std.proofs.Common.{◌≡◌, ℕ, zero, suc, ◌+◌, ◌<◌, ◌�
 use Rattle.std.specs.Prelude.{if◌then◌else◌}
 use Rattle.std.specs.List.{range_with_len}
 use Rattle.std.proofs.lemmas.List.{take_more, length-take-le}
-use Rattle.yr_names.specs.Names.{Name, is_meant}
+use Rattle.yr_numbered.specs.Names.{Name, is_meant}
 use Rattle.yr_syntax.specs.Condition.{ItemTree}
 use Rattle.yr_uses.specs.Meanings.{EarlierRule}
 use Rattle.yr_uses.specs.Views.{earlier_rules}

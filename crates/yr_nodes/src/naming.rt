@@ -9,17 +9,17 @@ ghost use Rattle.yr_uses.specs.Around.{around_of};
 ghost use Rattle.yr_uses.specs.Views.{earlier_rules};
 ghost use Rattle.yr_nodes.specs.Nodes as spec;
 ghost use Rattle.yr_nodes.specs.Shapes.{kept_ref, kept_set};
-ghost use Rattle.yr_names.specs.Names as names;
+ghost use Rattle.yr_numbered.specs.Names as names;
 
 use std::alloc::Global;
 use yr_base::NoMemory;
-use yr_names::{Numbered, means};
+use yr_numbered::{Numbered, means};
 use yr_rules::{Members, StringRef};
 use yr_syntax::{SetItem, SetRef};
 use yr_uses::{Around, Scopes};
 
 /// Whether one of the items means the name.
-#[tactic(auto, unfolding(yr_names::specs::Names::is_meant))]
+#[tactic(auto, unfolding(yr_numbered::specs::Names::is_meant))]
 fn is_meant(items: &[SetItem], name: &[u8]) -> bool
     ensures { result ≡ names.is_meant (map item_of items.now) name.now }
 {

@@ -20,7 +20,7 @@ use Rattle.yr_rules.specs.Kinds.{kind_of}
 use Rattle.yr_rules.specs.Rules.{PlainExternal, PlainString, PlainRule, PlainRules}
 use Rattle.yr_rules.specs.Weight.{total, weight_of, weight_limit}
 use Rattle.yr_rules.specs.Wellformed.{IsShortWord, IsGoodVariant, IsGoodString, IsGoodRule, HasItsStrings, IsWellformed, AreDifferent, count_different, count_limit, space_limit}
-use Rattle.yr_names.specs.Names.{Name, first, with_sign}
+use Rattle.yr_numbered.specs.Names.{Name, first, with_sign}
 use Rattle.yr_nodes.specs.Readers.{Readers, Expression, HexRefusal, RegexRefusal, string_variants, body_variants, hex_variants, regex_variants, plain_shape, wide_shape, modifiers_of, string_expression}
 use Rattle.yr_text.specs.declared.modifiers.Modifiers.{Modifiers}
 use Rattle.yr_types.specs.declared.check.Check.{Check}

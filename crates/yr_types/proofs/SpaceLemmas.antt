@@ -2,7 +2,7 @@
 use Rattle.std.proofs.Common.{◌≡◌, ℕ, zero, suc, ◌+◌, ◌≤◌, ◌<◌, List, [], ◌∷◌, ◌++◌, length, Bool, true, false, refl, sym, ap, subst, ◌∙◌, arith, Some, None, Option}
 use Rattle.std.specs.Prelude.{if◌then◌else◌, bytes_eq, slice_get}
 use Rattle.std.specs.Cmp.Lexicographic.{bytes_decides}
-use Rattle.yr_names.specs.Names.{Name}
+use Rattle.yr_numbered.specs.Names.{Name}
 use Rattle.yr_types.specs.declared.space.Space.{Space}
 use Rattle.yr_types.specs.Spaces.{SpaceTree, IsFirstNamed, found_space, no_space, space_shown}
 

@@ -7,7 +7,7 @@ use Rattle.std.proofs.lemmas.List.Folds.{list_any-append}
 use Rattle.yr_syntax.specs.Declaration.{Declaration}
 use Rattle.yr_syntax.specs.Declaration as declaration
 use Rattle.yr_rules.specs.Wellformed.{count_different}
-use Rattle.yr_names.specs.Names.{Name}
+use Rattle.yr_numbered.specs.Names.{Name}
 use Rattle.yr_types.specs.Sources.{Item, Import, Rule, PlacedRule, UnitTree, item_of, items_from, placed_after}
 
 -- the namespaces of the rules among items

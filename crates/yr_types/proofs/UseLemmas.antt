@@ -5,7 +5,7 @@ use Rattle.yr_syntax.specs.Condition.{Condition, Links, Steps, Items, Where, Ask
 use Rattle.yr_syntax.specs.Declaration.{StringTree, kind_of}
 use Rattle.yr_syntax.specs.Forms.{Each, HasForms, LinksHaveForms, StepsHaveForms, ItemsHaveForms, PlaceHasForms, AskedHasForms, DomainHasForms, StringHasForms}
 use Rattle.yr_text.specs.Checked.{checked}
-use Rattle.yr_names.specs.Names.{Name, first, with_sign}
+use Rattle.yr_numbered.specs.Names.{Name, first, with_sign}
 use Rattle.yr_uses.specs.Meanings as meaning
 use Rattle.yr_uses.specs.Meanings.{Around, Scope, Meaning, meaning_of, then_name, then_index, then_call, count_of, opened, current_of}
 use Rattle.yr_uses.specs.Uses as use'

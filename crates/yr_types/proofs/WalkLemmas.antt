@@ -8,7 +8,7 @@ use Rattle.std.proofs.lemmas.Grind.{flat_map-append}
 use Rattle.yr_syntax.specs.Declaration.{RuleTree}
 use Rattle.yr_rules.specs.Rules.{PlainRule, PlainString}
 use Rattle.yr_rules.specs.Weight.{total, weight_of, rule_weight, string_weight, external_weight}
-use Rattle.yr_names.specs.Names.{Name, first}
+use Rattle.yr_numbered.specs.Names.{Name, first}
 use Rattle.yr_types.specs.declared.check.Check.{Check}
 use Rattle.yr_types.specs.declared.check.Check.TheVariants as check
 use Rattle.yr_types.specs.declared.refusal.Code.TheVariants as code

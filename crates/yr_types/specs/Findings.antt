@@ -1,6 +1,6 @@
 -- What the code keeps of findings, as plain data.
 use Rattle.std.specs.Prelude.{◌≡◌, ℕ, false, List, [], ◌∷◌}
-use Rattle.yr_names.specs.Names.{Name, with_star}
+use Rattle.yr_numbered.specs.Names.{Name, with_star}
 use Rattle.yr_syntax.specs.Declaration.{StringTree, kind_of}
 use Rattle.yr_syntax.specs.Forms.{IsShortText, StringHasForms}
 use Rattle.yr_text.specs.Checked.{checked}

@@ -1,7 +1,7 @@
 -- What the code says of one rule.
 use Rattle.std.specs.Prelude.{◌≡◌, ◌≤◌, ◌-◌, ◌^◌, ◌++◌, ◌∷◌, [], map, min, Option, Some}
 use Rattle.std.specs.Option.{option_map, option_or}
-use Rattle.yr_names.specs.Names.{first}
+use Rattle.yr_numbered.specs.Names.{first}
 use Rattle.yr_rules.specs.Rules.{rule_of as checked_rule_of, string_of as checked_string_of}
 use Rattle.yr_rules.specs.Weight.{weight_of}
 use Rattle.yr_types.specs.declared.check.Check.{Check}

@@ -1,7 +1,7 @@
 -- A rule with what the later checks look at.
 use Rattle.std.specs.Prelude.{◌≡◌, ◌≤◌, []}
 use Rattle.std.specs.Option.{option_map, option_and_then}
-use Rattle.yr_names.specs.Names.{first}
+use Rattle.yr_numbered.specs.Names.{first}
 use Rattle.yr_rules.specs.Kinds.{kind_of}
 use Rattle.yr_types.specs.declared.late.Examined.{Examined}
 use Rattle.yr_types.specs.AtHand.{IsAtHand, given_at, placed_at}

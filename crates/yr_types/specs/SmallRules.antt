@@ -9,7 +9,7 @@ use Rattle.yr_syntax.specs.Declaration as declaration
 use Rattle.yr_syntax.specs.Declaration.{Declaration, StringTree, ModifierTree}
 use Rattle.yr_values.specs.Values as value
 use Rattle.yr_rules.specs.NodeTree.{NodeTree}
-use Rattle.yr_names.specs.Names.{Name}
+use Rattle.yr_numbered.specs.Names.{Name}
 use Rattle.yr_types.specs.Sources.{UnitTree, items_of}
 use Rattle.yr_nodes.specs.Readers.{Readers, Expression, HexRefusal, RegexRefusal}
 use Rattle.yr_types.specs.Given.{Given, Finding}

@@ -1,7 +1,7 @@
 -- What the code keeps of namespaces.
 use Rattle.std.specs.Prelude.{◌≡◌, ℕ, ◌<◌, ◌≤◌, ◌++◌, List, [], ◌∷◌, map, filter, length, Some, slice_get, if◌then◌else◌, bytes_eq, false, true}
 use Rattle.std.specs.List.{flat_map}
-use Rattle.yr_names.specs.Names.{Name}
+use Rattle.yr_numbered.specs.Names.{Name}
 use Rattle.yr_types.specs.declared.space.Space.{Space}
 use Rattle.yr_types.specs.Checks.{wildcards}
 use Rattle.yr_types.specs.Given.{Given, rule_names}

@@ -6,7 +6,7 @@ use Rattle.yr_syntax.specs.Forms.{DeclarationHasForms, Each}
 use Rattle.yr_syntax.specs.declared.declaration.Rule.{Rule as RuleType}
 use Rattle.yr_rules.specs.Rules.{external_of, rule_of as checked_rule_of, string_of as checked_string_of}
 use Rattle.yr_rules.specs.Weight.{weight_of}
-use Rattle.yr_names.specs.Names.{Name, first}
+use Rattle.yr_numbered.specs.Names.{Name, first}
 use Rattle.yr_nodes.specs.Fixed.{the_readers}
 use Rattle.yr_types.specs.declared.judging.Made.{Made}
 use Rattle.yr_types.specs.declared.space.Space.{Space}

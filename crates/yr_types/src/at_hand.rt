@@ -2,7 +2,7 @@
 
 use crate::items::Placed;
 use crate::space::Space;
-use yr_names::Numbered;
+use yr_numbered::Numbered;
 use yr_rules::External;
 use yr_syntax::Rule;
 use yr_values::ModuleNames;

@@ -2,7 +2,7 @@
 
 ghost use Rattle.std.specs.Prelude.{◌≡◌, IfOk, map};
 ghost use Rattle.std.specs.Option.{option_map};
-ghost use Rattle.yr_names.specs.Names.{first};
+ghost use Rattle.yr_numbered.specs.Names.{first};
 ghost use Rattle.yr_nodes.specs.Answers.{regex_answer_of};
 ghost use Rattle.yr_nodes.specs.Fixed.{the_readers};
 ghost use Rattle.yr_nodes.specs.Readers.{expression_of};

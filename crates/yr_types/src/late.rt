@@ -13,7 +13,7 @@ use crate::check::Check;
 use crate::finding::{Finding, Named, found, where_true};
 use crate::refusal::Code;
 use crate::used::{first_unknown_name, first_unknown_string, first_unused, some_deep, some_long};
-use yr_names::Numbered;
+use yr_numbered::Numbered;
 use yr_rules::Kind;
 use yr_uses::Uses;
 

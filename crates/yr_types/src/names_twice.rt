@@ -2,7 +2,7 @@
 
 ghost use Rattle.std.specs.Prelude.{◌≡◌, IfOk, filter, map};
 ghost use Rattle.std.specs.Option.{option_map};
-ghost use Rattle.yr_names.specs.Names as names;
+ghost use Rattle.yr_numbered.specs.Names as names;
 ghost use Rattle.yr_syntax.specs.Declaration.{bytes_of, string_of};
 ghost use Rattle.yr_types.specs.Checks as spec;
 ghost use Rattle.yr_types.specs.Findings.{finding_of};
@@ -12,7 +12,7 @@ use crate::finding::{Finding, Named, found, string_name};
 use crate::refusal::Code;
 use std::alloc::Global;
 use yr_base::NoMemory;
-use yr_names::{Name, begins, first_twice};
+use yr_numbered::{Name, begins, first_twice};
 use yr_syntax::StringDecl;
 
 /// Whether the name begins with one of the fronts.

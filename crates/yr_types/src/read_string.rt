@@ -14,7 +14,7 @@ ghost use Rattle.yr_nodes.specs.Fixed.{the_readers};
 ghost use Rattle.yr_nodes.specs.Answers.{regex_answer_of};
 ghost use Rattle.yr_types.specs.Patterns.{bad_hex, bad_regex, hex_finding, regex_finding, is_empty_text, is_refused};
 ghost use Rattle.yr_nodes.specs.Readers as spec;
-ghost use Rattle.yr_names.specs.Names.{with_sign};
+ghost use Rattle.yr_numbered.specs.Names.{with_sign};
 
 use crate::finding::{Finding, Named, found, string_name};
 use crate::reading::{HexAnswer, RegexAnswer, hex_answer, regex_answer};

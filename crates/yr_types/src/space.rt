@@ -5,7 +5,7 @@ ghost use Rattle.yr_types.specs.Spaces.{IsFirstNamed, found_space, no_space, spa
 
 use std::alloc::Global;
 use yr_base::NoMemory;
-use yr_names::{Name, Numbered};
+use yr_numbered::{Name, Numbered};
 
 /// A namespace as far as the checks have come.
 #[derive(Drop)]

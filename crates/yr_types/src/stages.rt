@@ -2,7 +2,7 @@
 
 ghost use Rattle.std.specs.Prelude.{◌≡◌, IfOk};
 ghost use Rattle.std.specs.Option.{option_map};
-ghost use Rattle.yr_names.specs.Names.{first};
+ghost use Rattle.yr_numbered.specs.Names.{first};
 ghost use Rattle.yr_types.specs.AtHand.{IsAtHand, given_at, placed_at};
 ghost use Rattle.yr_types.specs.Late.{IsExamined};
 ghost use Rattle.yr_types.specs.Stages.{early_fault, late_fault, fault_at};

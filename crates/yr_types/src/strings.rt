@@ -3,7 +3,7 @@
 ghost use Rattle.std.specs.Prelude.{◌≡◌, ◌+◌, ◌-◌, ◌^◌, IfOk, map, min};
 ghost use Rattle.std.specs.List.{list_any};
 ghost use Rattle.std.specs.Option.{option_map, option_or};
-ghost use Rattle.yr_names.specs.Names.{first};
+ghost use Rattle.yr_numbered.specs.Names.{first};
 ghost use Rattle.yr_nodes.specs.Fixed.{the_readers};
 ghost use Rattle.yr_nodes.specs.Readers.{string_variants};
 ghost use Rattle.yr_pattern.specs.Variants.{variant_of, variant_size};

@@ -9,7 +9,7 @@ ghost use Rattle.yr_types.specs.Checks.{wildcard};
 
 use std::alloc::Global;
 use yr_base::NoMemory;
-use yr_names::{Name, Numbered};
+use yr_numbered::{Name, Numbered};
 use yr_rules::External;
 use yr_syntax::StringDecl;
 use yr_uses::Use;

@@ -2,7 +2,7 @@
 
 ghost use Rattle.std.specs.Prelude.{◌≡◌, map};
 ghost use Rattle.std.specs.Option.{option_map};
-ghost use Rattle.yr_names.specs.Names.{first};
+ghost use Rattle.yr_numbered.specs.Names.{first};
 ghost use Rattle.yr_syntax.specs.Declaration.{body_of, string_of};
 ghost use Rattle.yr_types.specs.Findings.{finding_of, named_of};
 ghost use Rattle.yr_types.specs.Given.{naming};

@@ -3,17 +3,17 @@
 ghost use Rattle.std.specs.Prelude.{◌≡◌, map};
 ghost use Rattle.std.specs.List.{list_any};
 ghost use Rattle.std.specs.Option.{option_map};
-ghost use Rattle.yr_names.specs.Names as names;
+ghost use Rattle.yr_numbered.specs.Names as names;
 ghost use Rattle.yr_uses.specs.Views.{use_of};
 ghost use Rattle.yr_types.specs.Checks as spec;
 ghost use Rattle.yr_types.specs.Findings.{named_of};
 
 use crate::finding::{Named, string_name};
-use yr_names::{Numbered, begins, means};
+use yr_numbered::{Numbered, begins, means};
 use yr_uses::Use;
 
 /// Whether a name of a set means one of the names.
-#[tactic(auto, unfolding(yr_names::specs::Names::means_some))]
+#[tactic(auto, unfolding(yr_numbered::specs::Names::means_some))]
 fn means_some(item: &[u8], wild: bool, all: &Numbered<'_>) -> bool
     ensures { result ≡ names.means_some item.now wild all.now }
 {

@@ -16,7 +16,7 @@ use crate::space::{Space, add_import, add_rule, open_space};
 use std::alloc::Global;
 use yr_base::NoMemory;
 use yr_kinds::externals_weight;
-use yr_names::Numbered;
+use yr_numbered::Numbered;
 use yr_rules::{CheckedRule, CheckedString, External};
 use yr_syntax::{Decl, Rule};
 use yr_uses::find_module;

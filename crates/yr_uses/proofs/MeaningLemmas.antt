@@ -6,7 +6,7 @@ use Rattle.std.specs.Cmp.Lexicographic.{bytes_decides}
 use Rattle.std.proofs.lemmas.List.{take_more, length-take-le, length-append}
 use Rattle.yr_syntax.specs.Condition.{OneStep, Name, Index, Call, steps_of, items_of, Condition, Items, no_item, item, OverPath}
 use Rattle.yr_values.specs.Names.{NamedModule}
-use Rattle.yr_names.specs.Names.{Name as NameList, has, place_of}
+use Rattle.yr_numbered.specs.Names.{Name as NameList, has, place_of}
 use Rattle.yr_uses.specs.Meanings.{Around, EarlierRule, Scope, Members, Numbers, Entries, Meaning, Wrong, Variable, Entry, OfLoop, steps_meaning, path_meaning, variable_meaning, current_of, module_named, rule_named, count_of}
 use Rattle.yr_uses.specs.Uses.{Use, step_uses, path_uses}
 use Rattle.yr_uses.specs.Parts.{one_uses}

@@ -1,4 +1,4 @@
-pub use Rattle.yr_names.specs.Names
+pub use Rattle.yr_numbered.specs.Names
 pub mod Meanings
 pub mod Uses
 pub mod Views

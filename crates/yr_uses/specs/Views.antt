@@ -3,7 +3,7 @@ use Rattle.std.specs.Prelude.{ℕ, Bool, true, false, List, [], ◌∷◌, ◌++
 use Rattle.yr_syntax.specs.Condition.{regex_of}
 use Rattle.yr_values.specs.Names.{NamedModule, module_shown}
 use Rattle.yr_rules.specs.Rules.{external_of}
-use Rattle.yr_names.specs.Names.{Name, has}
+use Rattle.yr_numbered.specs.Names.{Name, has}
 use Rattle.yr_uses.specs.Meanings.{Around, EarlierRule, Scope, Members, Numbers, Entries, Index, NoIndex, OfLoop, Written, Meaning, Unknown, Wrong, Module, Array, Entry, Function, Constant, Field, Result, Variable, External, RuleTruth}
 use Rattle.yr_uses.specs.Uses as use'
 use Rattle.yr_uses.specs.Uses.{Use}

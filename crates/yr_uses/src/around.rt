@@ -3,7 +3,7 @@
 ghost use Rattle.std.specs.Prelude.{◌≡◌, length, map};
 ghost use Rattle.yr_rules.specs.Rules.{external_of};
 
-use yr_names::Numbered;
+use yr_numbered::Numbered;
 use yr_rules::External;
 use yr_values::Module;
 

@@ -10,7 +10,7 @@ use crate::around::Around;
 use crate::meaning::Meaning;
 use crate::module::find_module;
 use crate::scopes::Scopes;
-use yr_names::Numbered;
+use yr_numbered::Numbered;
 
 /// The first module of that name, where it is imported.
 fn imported_module<'a>(around: &Around<'_, 'a>, word: &[u8]) -> Option<Meaning<'a>>

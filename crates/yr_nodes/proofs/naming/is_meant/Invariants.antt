@@ -1,6 +1,6 @@
 use Rattle.std.proofs.Common.{◌≡◌, drop, map}
 use Rattle.std.specs.List.{list_any}
-use Rattle.yr_names.specs.Names.{means}
+use Rattle.yr_numbered.specs.Names.{means}
 use Rattle.yr_syntax.specs.Condition.{item_of}
 use Rattle.yr_nodes.proofs.naming.is_meant.Given as goal
 

@@ -1,6 +1,6 @@
 use Rattle.std.proofs.Common.{◌≡◌, drop, map}
 use Rattle.std.specs.Option.{option_map}
-use Rattle.yr_names.specs.Names.{first}
+use Rattle.yr_numbered.specs.Names.{first}
 use Rattle.yr_nodes.specs.Fixed.{the_readers}
 use Rattle.yr_uses.specs.Views.{use_of}
 use Rattle.yr_types.specs.Findings.{finding_of}

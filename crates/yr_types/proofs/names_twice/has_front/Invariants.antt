@@ -1,6 +1,6 @@
 use Rattle.std.proofs.Common.{◌≡◌, drop}
 use Rattle.std.specs.List.{list_any}
-use Rattle.yr_names.specs.Names.{begins}
+use Rattle.yr_numbered.specs.Names.{begins}
 use Rattle.yr_types.proofs.names_twice.has_front.Given as goal
 
 abbrev pub invariant-loop-front : goal.invariant-loop-front

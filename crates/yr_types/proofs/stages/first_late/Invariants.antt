@@ -1,5 +1,5 @@
 use Rattle.std.proofs.Common.{◌≡◌, drop}
-use Rattle.yr_names.specs.Names.{first}
+use Rattle.yr_numbered.specs.Names.{first}
 use Rattle.yr_types.specs.AtHand.{given_at, placed_at}
 use Rattle.yr_types.specs.Stages.{late_fault}
 use Rattle.yr_types.proofs.stages.first_late.Given as goal

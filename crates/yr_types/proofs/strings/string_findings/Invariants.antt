@@ -1,6 +1,6 @@
 use Rattle.std.proofs.Common.{◌≡◌, ◌-◌, ◌^◌, drop, map, min}
 use Rattle.std.specs.Option.{option_map}
-use Rattle.yr_names.specs.Names.{first}
+use Rattle.yr_numbered.specs.Names.{first}
 use Rattle.yr_nodes.specs.Fixed.{the_readers}
 use Rattle.yr_rules.specs.Weight.{string_weight, total}
 use Rattle.yr_syntax.specs.Declaration.{string_of}

@@ -1,5 +1,5 @@
 use Rattle.std.proofs.Common.{◌≡◌, drop, map}
-use Rattle.yr_names.specs.Names.{first}
+use Rattle.yr_numbered.specs.Names.{first}
 use Rattle.yr_syntax.specs.Declaration.{string_of}
 use Rattle.yr_types.specs.Patterns.{bad_modifiers}
 use Rattle.yr_types.proofs.texts.first_bad_modifiers.Given as goal

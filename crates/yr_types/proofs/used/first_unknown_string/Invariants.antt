@@ -1,5 +1,5 @@
 use Rattle.std.proofs.Common.{◌≡◌, drop, map}
-use Rattle.yr_names.specs.Names.{first}
+use Rattle.yr_numbered.specs.Names.{first}
 use Rattle.yr_uses.specs.Views.{use_of}
 use Rattle.yr_types.specs.Checks.{unknown_string}
 use Rattle.yr_types.proofs.used.first_unknown_string.Given as goal

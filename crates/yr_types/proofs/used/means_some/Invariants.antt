@@ -1,6 +1,6 @@
 use Rattle.std.proofs.Common.{◌≡◌, drop}
 use Rattle.std.specs.List.{list_any}
-use Rattle.yr_names.specs.Names.{means}
+use Rattle.yr_numbered.specs.Names.{means}
 use Rattle.yr_types.proofs.used.means_some.Given as goal
 
 abbrev pub invariant-loop-number : goal.invariant-loop-number
