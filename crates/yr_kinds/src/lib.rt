@@ -8,6 +8,6 @@ mod operator_kind;
 mod prefixes;
 mod rule_weight;
 
-pub use node_kind::condition_kind;
+pub use node_kind::{condition_kind, external_kind};
 pub use node_weight::condition_weight;
 pub use rule_weight::{externals_weight, meta_weight, string_weight, strings_weight, tags_weight};

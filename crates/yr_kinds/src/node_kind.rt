@@ -17,10 +17,11 @@ use yr_rules::{
     NodeRange, PrefixOp,
 };
 
-fn external_kind(externals: &[External], number: u32) -> Option<Kind>
+/// The kind of the external with a number.
+pub fn external_kind(externals: &[External], number: usize) -> Option<Kind>
     ensures { result ≡ spec.external_kind (map external_of externals.now) number }
 {
-    match externals.get(number as usize) {
+    match externals.get(number) {
         None => None,
         Some(external) => match external.value {
             ExternalValue::Number(_) => Some(Kind::Number),
@@ -98,7 +99,7 @@ fn kind_of(externals: &[External], node: &Node, loops: &Loops<'_>) -> Option<Kin
         Node::Number(_) | Node::FileSize => Some(Kind::Number),
         Node::Text(_) => Some(Kind::Text),
         Node::Flag(_) | Node::RuleTruth(_) => Some(Kind::Flag),
-        Node::External(number) => external_kind(externals, *number),
+        Node::External(number) => external_kind(externals, *number as usize),
         Node::Var(number) => variable_kind(open_loop(loops, *number)),
         Node::Field { kind, index, .. } => field_kind(externals, *kind, index, loops),
         Node::Call {

@@ -21,7 +21,10 @@ pub fn range_of(
 ) -> Result<Option<NodeRange>, NoMemory>
     ensures { IfOk result (λ r. option_map bounds_of r ≡ of_two bounds (option_map tree_of low) (option_map tree_of high)) }
 {
-    let (Some(low), Some(high)) = (low, high) else {
+    let Some(low) = low else {
+        return Ok(None);
+    };
+    let Some(high) = high else {
         return Ok(None);
     };
     Ok(Some(NodeRange {
@@ -82,11 +85,17 @@ pub fn offset_at(
 ) -> Result<Option<Node>, NoMemory>
     ensures { IfOk result (λ n. option_map tree_of n ≡ of_two node.OffsetAt string (option_map tree_of index)) }
 {
-    let (Some(string), Some(index)) = (string, index) else {
+    let Some(string) = string else {
         return Ok(None);
     };
-    let index = Some(Box::new(alloc, index)?);
-    Ok(Some(Node::Offset { string, index }))
+    let Some(index) = index else {
+        return Ok(None);
+    };
+    let index = Box::new(alloc, index)?;
+    Ok(Some(Node::Offset {
+        string,
+        index: Some(index),
+    }))
 }
 
 pub fn length(string: Option<StringRef>) -> Option<Node>
@@ -108,11 +117,17 @@ pub fn length_at(
 ) -> Result<Option<Node>, NoMemory>
     ensures { IfOk result (λ n. option_map tree_of n ≡ of_two node.LengthAt string (option_map tree_of index)) }
 {
-    let (Some(string), Some(index)) = (string, index) else {
+    let Some(string) = string else {
         return Ok(None);
     };
-    let index = Some(Box::new(alloc, index)?);
-    Ok(Some(Node::Length { string, index }))
+    let Some(index) = index else {
+        return Ok(None);
+    };
+    let index = Box::new(alloc, index)?;
+    Ok(Some(Node::Length {
+        string,
+        index: Some(index),
+    }))
 }
 
 pub fn read(alloc: Global, reader: Reader, at: Option<Node>) -> Result<Option<Node>, NoMemory>
@@ -132,7 +147,10 @@ pub fn chain(
 ) -> Result<Option<Node>, NoMemory>
     ensures { IfOk result (λ n. option_map tree_of n ≡ of_two node.Chain (option_map tree_of first) (option_map (λ ls. links_of (map link_of ls.items)) rest)) }
 {
-    let (Some(first), Some(rest)) = (first, rest) else {
+    let Some(first) = first else {
+        return Ok(None);
+    };
+    let Some(rest) = rest else {
         return Ok(None);
     };
     let first = Box::new(alloc, first)?;
@@ -146,7 +164,10 @@ pub fn matches(
 ) -> Result<Option<Node>, NoMemory>
     ensures { IfOk result (λ n. option_map tree_of n ≡ of_two node.Matches (option_map tree_of text) (option_map pattern_of pattern)) }
 {
-    let (Some(text), Some(pattern)) = (text, pattern) else {
+    let Some(text) = text else {
+        return Ok(None);
+    };
+    let Some(pattern) = pattern else {
         return Ok(None);
     };
     let text = Box::new(alloc, text)?;
@@ -170,7 +191,10 @@ pub fn for_of(
 ) -> Result<Option<Node>, NoMemory>
     ensures { IfOk result (λ n. option_map tree_of n ≡ of_two (λ q b. node.ForOf q (set_of set) b) (option_map asked_of quant) (option_map tree_of body)) }
 {
-    let (Some(quant), Some(body)) = (quant, body) else {
+    let Some(quant) = quant else {
+        return Ok(None);
+    };
+    let Some(body) = body else {
         return Ok(None);
     };
     let body = Box::new(alloc, body)?;
@@ -186,7 +210,13 @@ pub fn for_in(
 ) -> Result<Option<Node>, NoMemory>
     ensures { IfOk result (λ n. option_map tree_of n ≡ of_three (λ q d b. node.ForIn q name.now d b) (option_map asked_of quant) (option_map domain_of over) (option_map tree_of body)) }
 {
-    let (Some(quant), Some(over), Some(body)) = (quant, over, body) else {
+    let Some(quant) = quant else {
+        return Ok(None);
+    };
+    let Some(over) = over else {
+        return Ok(None);
+    };
+    let Some(body) = body else {
         return Ok(None);
     };
     let name = Vec::from_slice(alloc, name)?;

@@ -12,7 +12,8 @@ ghost use Rattle.yr_nodes.specs.Views.{IsLow, IsLowIndex, written_of};
 
 use std::alloc::Global;
 use yr_base::{Kind, NoMemory};
-use yr_rules::{External, ExternalValue, Node};
+use yr_kinds::external_kind;
+use yr_rules::{External, Node};
 use yr_uses::{Index, Meaning};
 
 /// An external, or where numbers are not wanted a value of its kind.
@@ -24,10 +25,11 @@ fn external(alloc: Global, exact: bool, externals: &[External], number: usize) -
     if exact {
         return Node::External(number as u32);
     }
-    match externals[number].value {
-        ExternalValue::Number(_) => Node::Number(0),
-        ExternalValue::Flag(_) => Node::Flag(false),
-        ExternalValue::Text(_) => Node::Text(Vec::new(alloc)),
+    match external_kind(externals, number) {
+        Some(Kind::Number) => Node::Number(0),
+        Some(Kind::Flag) => Node::Flag(false),
+        Some(Kind::Text) => Node::Text(Vec::new(alloc)),
+        None => unreachable!(),
     }
 }
 
@@ -43,11 +45,15 @@ fn written_field(
     if written.is_empty() {
         return Ok(None);
     }
-    let Some(index) = written.swap_remove(0) else {
+    let Some(index) = written.remove(0) else {
         return Ok(None);
     };
-    let index = Some(Box::new(alloc, index)?);
-    Ok(Some(Node::Field { id, kind, index }))
+    let index = Box::new(alloc, index)?;
+    Ok(Some(Node::Field {
+        id,
+        kind,
+        index: Some(index),
+    }))
 }
 
 fn field(
@@ -67,8 +73,12 @@ fn field(
             index: None,
         })),
         Index::OfLoop(number) => {
-            let index = Some(Box::new(alloc, Node::Var(number as u32))?);
-            Ok(Some(Node::Field { id, kind, index }))
+            let index = Box::new(alloc, Node::Var(number as u32))?;
+            Ok(Some(Node::Field {
+                id,
+                kind,
+                index: Some(index),
+            }))
         }
         Index::Written => written_field(alloc, id, kind, written),
     }
@@ -88,7 +98,10 @@ fn call(
     }
     let size = written.remove(1);
     let from = written.remove(0);
-    let (Some(from), Some(size)) = (from, size) else {
+    let Some(from) = from else {
+        return Ok(None);
+    };
+    let Some(size) = size else {
         return Ok(None);
     };
     Ok(Some(Node::Call {

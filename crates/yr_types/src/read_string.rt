@@ -17,7 +17,7 @@ ghost use Rattle.yr_nodes.specs.Readers as spec;
 ghost use Rattle.yr_numbered.specs.Names.{with_sign};
 
 use crate::finding::{Finding, Named, found, string_name};
-use crate::reading::{HexAnswer, RegexAnswer, hex_answer, regex_answer};
+use yr_nodes::{HexAnswer, RegexAnswer, hex_answer, regex_answer};
 use crate::refusal::Code;
 use std::alloc::Global;
 use yr_base::{Border, NoMemory};
