@@ -3,3 +3,4 @@ pub mod FixedLemmas
 pub mod LowLemmas
 pub mod ShapeLemmas
 pub mod NumberLemmas
+pub mod PartLemmas

@@ -16,6 +16,7 @@ ghost use Rattle.yr_nodes.specs.Room.{IsRoomy};
 ghost use Rattle.yr_nodes.specs.Readers.{expression_of};
 ghost use Rattle.yr_rules.specs.NodeTree as node;
 ghost use Rattle.yr_nodes.specs.Shapes as shape;
+ghost use Rattle.yr_nodes.specs.Steps.{OneHasForms, one_height, one_written};
 ghost use Rattle.yr_nodes.specs.Views.{bounds, written_of, IsLow};
 
 use crate::making::{
@@ -30,7 +31,7 @@ use std::alloc::Global;
 use yr_base::NoMemory;
 use yr_rules::{Node, NodeLink, NodeOver, NodePlace, NodeQuant, NodeRange, Pattern, PrefixOp};
 use yr_syntax::{Cond, Link, Over, PathStep, Place, Quant, Range, RegexText};
-use yr_uses::{Around, Meaning, Scope, Scopes, opened, path_meaning, then_call, then_index, then_name, word_meaning};
+use yr_uses::{Around, Meaning, Scope, Scopes, opened, path_meaning, then_step, word_meaning};
 
 /// The pattern of an expression, where it can be read.
 fn pattern(alloc: Global, regex: &RegexText) -> Result<Option<Pattern>, NoMemory>
@@ -347,6 +348,29 @@ fn path<'a>(
     }
 }
 
+/// The index or the arguments that are written last, with one more part behind.
+#[cycle(nodes)]
+fn step_written<'a>(
+    alloc: Global,
+    exact: bool,
+    around: &Around<'_, 'a>,
+    step: &'a PathStep,
+    written: Vec<Option<Node>>,
+    scopes: &mut Scopes<'a>,
+) -> Result<Vec<Option<Node>>, NoMemory>
+    requires room { IsRoomy exact around.now }
+    requires forms { OneHasForms (tree.step_of step.now) }
+    requires low { one_height (tree.step_of step.now) + length scopes.old ≤ forms.height_limit }
+    ensures scopes { OnOk result (scopes.new ≡ scopes.old) }
+    ensures written { IfOk result (λ w. written_of w.items ≡ one_written exact the_readers (around_of around.now) (tree.step_of step.now) (written_of written.items) scopes.old) }
+{
+    match step {
+        PathStep::Name(_) => Ok(written),
+        PathStep::Index(index) => one(alloc, node(alloc, exact, around, index, scopes)?),
+        PathStep::Call(arguments) => each(alloc, exact, around, arguments, scopes),
+    }
+}
+
 /// What is made of a path behind what means this.
 #[cycle(nodes)]
 fn steps_behind<'a>(
@@ -367,17 +391,8 @@ fn steps_behind<'a>(
     let mut meaning = start;
     let mut written = Vec::new(alloc);
     for step in steps {
-        match step {
-            PathStep::Name(word) => meaning = then_name(meaning, word),
-            PathStep::Index(index) => {
-                written = one(alloc, node(alloc, exact, around, index, scopes)?)?;
-                meaning = then_index(meaning);
-            }
-            PathStep::Call(arguments) => {
-                written = each(alloc, exact, around, arguments, scopes)?;
-                meaning = then_call(meaning, arguments.len());
-            }
-        }
+        written = step_written(alloc, exact, around, step, written, scopes)?;
+        meaning = then_step(meaning, step);
     }
     value(alloc, exact, around.externals, meaning, written)
 }

@@ -14,7 +14,7 @@ mod word;
 pub use around::Around;
 pub use meaning::{Index, Meaning, then_call, then_index, then_name};
 pub use module::find_module;
-pub use path::{count, opened, path_meaning};
+pub use path::{count, opened, path_meaning, then_step};
 pub use prefix::behind_prefixes;
 pub use scopes::{Scope, Scopes};
 pub use uses::{Use, Uses};

@@ -21,7 +21,7 @@ pub fn count(conditions: &[Cond]) -> usize
 }
 
 /// What a path leads to with one more part behind it.
-fn then_step<'a>(before: Meaning<'a>, step: &PathStep) -> Meaning<'a>
+pub fn then_step<'a>(before: Meaning<'a>, step: &PathStep) -> Meaning<'a>
     ensures { shown result ≡ step_meaning (step_of step.now) (shown before.entry) }
 {
     match step {
