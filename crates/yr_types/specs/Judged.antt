@@ -1,5 +1,5 @@
 -- What the code says of one rule.
-use Rattle.std.specs.Prelude.{◌≡◌, ◌≤◌, ◌-◌, ◌^◌, ◌++◌, ◌∷◌, [], map, min, Option, Some}
+use Rattle.std.specs.Prelude.{◌≡◌, ◌≤◌, ◌+◌, ◌-◌, ◌^◌, ◌++◌, length, ◌∷◌, [], map, min, Option, Some}
 use Rattle.std.specs.Option.{option_map, option_or}
 use Rattle.yr_numbered.specs.Names.{first}
 use Rattle.yr_rules.specs.Rules.{rule_of as checked_rule_of, string_of as checked_string_of}
@@ -42,6 +42,8 @@ pub record IsMade (given : Given) (p : PlacedRule) (made : Made) : Type 0 where
   pub rule : Some (checked_rule_of made.rule) ≡ checked_rule given p
   pub strings : map checked_string_of made.strings.items ≡ checked_strings given p
   pub fronts : made.fronts.items ≡ wildcards given p
+  pub few_rules : number_of p + 1 ≤ 65535
+  pub few_strings : first_string_of p + length p.rule.strings ≤ 65535
   pub weight : made.weight ≡ min (weight_of (checked_rules given (p.before ++ Rule p.unit p.space p.rule ∷ []))) (2 ^ 64 - 1)
 
 -- an error is want of memory, or the refusal that there is

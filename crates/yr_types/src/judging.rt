@@ -17,7 +17,7 @@ ghost use Rattle.yr_types.specs.Given.{around, rule_uses, rule_node, string_name
 ghost use Rattle.yr_types.specs.Judged.{IsBefore, IsMade, Explains, rule_fault, weight_fault, rest_fault};
 ghost use Rattle.yr_types.specs.Patterns as patterns;
 ghost use Rattle.yr_types.specs.Refusals.{checks};
-ghost use Rattle.yr_types.specs.Sources.{AtRule, first_string_of, up_to};
+ghost use Rattle.yr_types.specs.Sources.{AtRule, first_string_of, number_of, up_to};
 ghost use Rattle.yr_types.specs.Stages.{fault_at, late_fault};
 ghost use Rattle.yr_uses.specs.Around.{around_of};
 
@@ -167,7 +167,7 @@ fn checked_rule(
     condition: Node,
 ) -> Result<CheckedRule, NoMemory>
     requires before { IsBefore (given_at at.now) (placed_at at.now) before.now }
-    requires few { before.now.strings + length at.now.rule.now.strings.items ≤ 65535 }
+    requires few { first_string_of (placed_at at.now) + length (placed_at at.now).rule.strings ≤ 65535 }
     ensures { IfOk result (λ r. checked_rule_of r ≡ checked.with_node (placed_at at.now) (node_tree condition)) }
 {
     Ok(CheckedRule {
@@ -197,7 +197,8 @@ fn make<'a>(
 ) -> Result<Made<'a>, NoMemory>
     requires before { IsBefore (given_at at.now) (placed_at at.now) before.now }
     requires sound { Each IsSoundString (placed_at at.now).rule.strings }
-    requires few { before.now.strings + length at.now.rule.now.strings.items ≤ 65535 }
+    requires few_rules { number_of (placed_at at.now) + 1 ≤ 65535 }
+    requires few_strings { first_string_of (placed_at at.now) + length (placed_at at.now).rule.strings ≤ 65535 }
     requires uses { uses.now ≡ rule_uses (given_at at.now) (placed_at at.now) }
     requires condition { rule_node (given_at at.now) (placed_at at.now) ≡ Some (node_tree condition) }
     requires weight { weight ≡ min (weight_of (checked.checked_rules (given_at at.now) (up_to (AtRule (placed_at at.now))))) (2 ^ 64 - 1) }
