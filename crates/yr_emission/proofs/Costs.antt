@@ -1,5 +1,5 @@
 -- The bytes of a checked condition's code are bounded by its weight.
-use Rattle.std.proofs.Common.{◌≡◌, ℕ, ◌+◌, ◌*◌, ◌≤◌, Bool, List, [], ◌∷◌, length, Option, Some, None, refl, arith, length-append}
+use Rattle.std.proofs.Common.{◌≡◌, ℕ, ◌+◌, ◌*◌, ◌≤◌, Bool, true, List, [], ◌∷◌, length, Option, Some, None, refl, arith, length-append}
 use Rattle.yr_base.specs.declared.value.Kind.{Kind}
 use Rattle.yr_base.specs.declared.value.Kind.TheVariants as kind
 use Rattle.yr_rules.specs.NodeTree.{NodeTree, NodeLinks, NodeItems, NodeWhere, NodeAsked, NodeDomain, NodeSet, Strings, Rules, Number, Text, Flag, FileSize, External, RuleTruth, Var, Field, FieldAt, Call, Found, Count, CountIn, Offset, OffsetAt, Length, LengthAt, Read, Prefix, Chain, Matches, Of, ForOf, ForIn, no_link, link, no_item, item, Anywhere, At, Within, All as Every, Any, Nil, AtLeast, Percent, OverRange, OverList, OverEntries}
@@ -39,6 +39,12 @@ module _ (externals : List PlainExternal) where
   abbrev part : NodeTree → Part
   part c = part_of externals c
 
+  -- the variable of a loop over entries weighs nothing, but is an index
+  index_costs : (c : NodeTree) (loops : List Loop) (made k : Kind) → of_number (option_or (own_index c loops) (kind_of externals c loops)) made ≡ Some k
+      → (kind_of externals c loops ≡ Some kind.Number → part_bytes (part_of externals c) + 64 ≤ 64 * node_weight c loops) → part_bytes (part_of externals c) ≤ 64 * node_weight c loops + 16
+  index_costs (Var d) loops made k h costs = omega arith
+  index_costs c loops made k h costs = omega (arith, costs (number_asks (kind_of externals c loops) made k h))
+
   mutual
     pub costs : (c : NodeTree) (loops : List Loop) (k : Kind) → kind_of externals c loops ≡ Some k → part_bytes (part_of externals c) + 64 ≤ 64 * node_weight c loops
     costs (Number n) loops k h = omega arith
@@ -49,7 +55,7 @@ module _ (externals : List PlainExternal) where
     costs (RuleTruth n) loops k h = omega arith
     costs (Var d) loops k h = let e : variable_weight (loop_at d loops) ≡ 16 = variable_weighs (loop_at d loops) k h in omega (arith, e)
     costs (Field id kd) loops k h = omega arith
-    costs (FieldAt id kd index) loops k h = omega (arith, bytes_both (part index) (one (i.Field _ id)), index_costs index loops kd k h)
+    costs (FieldAt id kd index) loops k h = omega (arith, bytes_both (part index) (one (i.Field true id)), index_costs index loops kd k h (λ g. costs index loops kind.Number g))
     costs (Call id kd from size) loops k h =
         let ks = numbers_ask (kind_of externals from loops) (kind_of externals size loops) kd k h in
         omega (arith, bytes_both (part from) (both (part size) (one (i.Call id))), bytes_both (part size) (one (i.Call id)), costs from loops kind.Number ks.0, costs size loops kind.Number ks.1)
@@ -79,16 +85,27 @@ module _ (externals : List PlainExternal) where
         let inner = where_made (place_fits set place) (of_numbers (asked_kind externals asked loops) (place_kind externals place loops) kind.Flag) k h in
         let ks = numbers_ask (asked_kind externals asked loops) (place_kind externals place loops) kind.Flag k inner in
         let y = place_part externals place in let z = set_part (form_of set place) (quantifier_row asked) (numbers_of set) in
-        omega (arith, bytes_both (asked_part externals asked) (both y z), bytes_both y z, set_bytes set,
-        asked_costs asked loops (asked_known externals asked loops kind.Number ks.0), place_costs place loops (place_known externals place loops kind.Number ks.1))
+        omega (
+          arith,
+          bytes_both (asked_part externals asked) (both y z),
+          bytes_both y z,
+          set_bytes set,
+          asked_costs asked loops (asked_known externals asked loops kind.Number ks.0),
+          place_costs place loops (place_known externals place loops kind.Number ks.1),
+        )
     costs (ForOf asked (Rules ns) body) loops k h = absurd (no_kind k h)
     costs (ForOf asked (Strings ns) body) loops k h =
         let inner = of_value (kind_of externals body (Members ∷ loops)) in
         let ak = first_asked (loop_asked_kind externals asked loops) inner k h in
         let bk = value_asks (kind_of externals body (Members ∷ loops)) k (second (loop_asked_kind externals asked loops) inner k h) in
         let begin = strings_row asked (length ns) in
-        omega (arith, bytes_both (asked_part externals asked) (looping begin ns (part body)), bytes_looping begin ns (part body),
-        asked_costs asked loops (loop_asked_known externals asked loops ak.0 ak.1), costs body (Members ∷ loops) bk.0 bk.1)
+        omega (
+          arith,
+          bytes_both (asked_part externals asked) (looping begin ns (part body)),
+          bytes_looping begin ns (part body),
+          asked_costs asked loops (loop_asked_known externals asked loops ak.0 ak.1),
+          costs body (Members ∷ loops) bk.0 bk.1,
+        )
     costs (ForIn asked name domain body) loops k h =
         let inside = loop_over domain ∷ loops in
         let inner = of_value (kind_of externals body inside) in
@@ -97,13 +114,15 @@ module _ (externals : List PlainExternal) where
         let dk = first_asked (domain_kind externals domain loops) inner k h1 in
         let bk = value_asks (kind_of externals body inside) k (second (domain_kind externals domain loops) inner k h1) in
         let begin = loop_row asked domain in let y = domain_part externals domain in let z = looping begin [] (part body) in
-        omega (arith, bytes_both (asked_part externals asked) (both y z), bytes_both y z, bytes_looping begin [] (part body),
-        asked_costs asked loops (loop_asked_known externals asked loops ak.0 ak.1), domain_costs domain loops dk.0 dk.1, costs body inside bk.0 bk.1)
-
-    -- the variable of a loop over entries weighs nothing, but is an index
-    index_costs : (c : NodeTree) (loops : List Loop) (made k : Kind) → of_number (option_or (own_index c loops) (kind_of externals c loops)) made ≡ Some k → part_bytes (part_of externals c) ≤ 64 * node_weight c loops + 16
-    index_costs (Var d) loops made k h = omega arith
-    index_costs c loops made k h = omega (arith, costs c loops kind.Number (number_asks (kind_of externals c loops) made k h))
+        omega (
+          arith,
+          bytes_both (asked_part externals asked) (both y z),
+          bytes_both y z,
+          bytes_looping begin [] (part body),
+          asked_costs asked loops (loop_asked_known externals asked loops ak.0 ak.1),
+          domain_costs domain loops dk.0 dk.1,
+          costs body inside bk.0 bk.1,
+        )
 
     links_costs : (ks : NodeLinks) (before : Option Kind) (b : Kind) (loops : List Loop) (k : Kind) → links_kind externals before ks loops ≡ Some k → part_bytes (links_part externals ks b) ≤ 64 * links_weight ks loops
     links_costs no_link before b loops k h = omega arith
@@ -137,8 +156,12 @@ module _ (externals : List PlainExternal) where
     items_costs no_item loops k h = omega arith
     items_costs (item c rest) loops k h =
         let t = first_asked (of_number (kind_of externals c loops) kind.Number) (items_kind externals rest loops) k h in
-        omega (arith, bytes_both (part c) (items_part externals rest), costs c loops kind.Number (number_asks (kind_of externals c loops) kind.Number t.0 t.1),
-        items_costs rest loops k (second (of_number (kind_of externals c loops) kind.Number) (items_kind externals rest loops) k h))
+        omega (
+          arith,
+          bytes_both (part c) (items_part externals rest),
+          costs c loops kind.Number (number_asks (kind_of externals c loops) kind.Number t.0 t.1),
+          items_costs rest loops k (second (of_number (kind_of externals c loops) kind.Number) (items_kind externals rest loops) k h),
+        )
 
   -- the code of a rule
   pub rule_costs : (c : NodeTree) (k : Kind) → kind_of externals c [] ≡ Some k → part_bytes (rule_part externals c) ≤ 64 * node_weight c []

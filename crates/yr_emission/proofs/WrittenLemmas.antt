@@ -81,6 +81,26 @@ written_both x y r0 r1 r2 i0 i1 i2 size p q =
       others = ap (put_back i0) q.others ∙ p.others;
     }
 
+-- parts put together in another order
+pub written_assoc : (x y z : Part) (r0 r1 : List CodeRow) (i0 i1 : Image) → Written (both (both x y) z) r0 r1 i0 i1 → Written (both x (both y z)) r0 r1 i0 i1
+written_assoc x y z r0 r1 i0 i1 w =
+    let n = length r0 in let m = length i0.lists in
+    let a = x.rows n m in let b = y.rows (n + x.size) (m + length x.lists) in
+    let p : n + (x.size + y.size) ≡ n + x.size + y.size = omega arith in
+    let q : m + length (x.lists ++ y.lists) ≡ m + length x.lists + length y.lists = omega (arith, length-append x.lists y.lists) in
+    let e : (both (both x y) z).rows n m ≡ (both x (both y z)).rows n m =
+    append_assoc a b (z.rows (n + (x.size + y.size)) (m + length (x.lists ++ y.lists)))
+    ∙ ap (λ k. a ++ (b ++ z.rows k (m + length (x.lists ++ y.lists)))) p ∙ ap (λ k. a ++ (b ++ z.rows (n + x.size + y.size) k)) q in
+    record {
+      more = w.more;
+      rows = w.rows;
+      tell = subst (λ ls. TellAll i1 ls w.more) e w.tell;
+      lists = w.lists ∙ ap (λ l. i0.lists ++ l) (append_assoc x.lists y.lists z.lists);
+      grows = w.grows;
+      few = omega (arith, w.few);
+      others = w.others;
+    }
+
 pub written_nothing : (r : List CodeRow) (image : Image) → Written nothing r r image image
 written_nothing r image = record {
   more = [];

@@ -32,9 +32,10 @@ said image front [] (r ∷ rs) b e s t = absurd t
 said image front (l ∷ ls) [] b e s t = absurd t
 said image front (l ∷ ls) (r ∷ rs) b e s t =
     let here : instruction_at (front ++ r ∷ rs) b ≡ instruction_of r = ap (option_and_then instruction_of) (there front rs r b e) in
-    let count : b + 1 ≡ length (front ++ r ∷ []) = omega (arith, e, length-append front (r ∷ [])) in
-    (fulfilled image l r (instruction_at (front ++ r ∷ rs) b) here s.0 t.0,
-    subst (λ rows. Says image rows (b + 1) ls) (append_assoc front (r ∷ []) rs) (said image (front ++ r ∷ []) ls rs (b + 1) count s.1 t.1))
+    let count : b + 1 ≡ length (front ++ r ∷ []) = omega (arith, e, length-append front (r ∷ [])) in (
+      fulfilled image l r (instruction_at (front ++ r ∷ rs) b) here s.0 t.0,
+      subst (λ rows. Says image rows (b + 1) ls) (append_assoc front (r ∷ []) rs) (said image (front ++ r ∷ []) ls rs (b + 1) count s.1 t.1),
+    )
 
 added_at : (front xs : List ℕ) (a : ℕ) → a ≡ length front → HasAt (front ++ xs) a xs
 added_at front [] a e = tt

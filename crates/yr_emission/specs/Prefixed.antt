@@ -1,5 +1,5 @@
 -- Runs of prefix operators.
-use Rattle.std.specs.Prelude.{ℕ, List, [], ◌∷◌}
+use Rattle.std.specs.Prelude.{List, [], ◌∷◌}
 use Rattle.yr_syntax.specs.declared.operator.PrefixOp.{PrefixOp}
 use Rattle.yr_rules.specs.NodeTree.{NodeTree, Prefix}
 use Rattle.yr_image.specs.declared.rows.CodeRow.{CodeRow}

@@ -14,9 +14,9 @@ use crate::choosing::{
 };
 use crate::kind::value_kind;
 use crate::looping::{LoopStart, begin_row, start_of};
+use crate::prefixes::{put_prefixes, under_prefixes};
 use crate::putting::{
-    field, members_of, place, put, put_entries, put_first, put_pattern, put_prefixes, put_set,
-    put_text, saying,
+    field, members_of, place, put, put_entries, put_first, put_pattern, put_set, put_text, saying,
 };
 use std::alloc::Global;
 use yr_base::{Kind, NoMemory};
@@ -53,15 +53,11 @@ pub fn emit(
             index: Some(index),
             ..
         } => emit_one(alloc, draft, rows, externals, index, field(true, *id)),
-        Node::Call { id, from, size, .. } => emit_two(
-            alloc,
-            draft,
-            rows,
-            externals,
-            from,
-            size,
-            Instruction::Call(u32::from(*id)),
-        ),
+        Node::Call { id, from, size, .. } => {
+            emit(alloc, draft, rows, externals, from)?;
+            emit(alloc, draft, rows, externals, size)?;
+            put(rows, Instruction::Call(u32::from(*id)))
+        }
         Node::Found { string, place } => {
             emit_place(alloc, draft, rows, externals, place)?;
             put(rows, found_row(place, name_of(*string)))
@@ -73,15 +69,10 @@ pub fn emit(
         Node::Count {
             string,
             range: Some(range),
-        } => emit_two(
-            alloc,
-            draft,
-            rows,
-            externals,
-            &range.low,
-            &range.high,
-            Instruction::CountIn(name_of(*string)),
-        ),
+        } => {
+            emit_range(alloc, draft, rows, externals, range)?;
+            put(rows, Instruction::CountIn(name_of(*string)))
+        }
         Node::Offset {
             string,
             index: None,
@@ -197,25 +188,6 @@ fn emit_one(
     put(rows, instruction)
 }
 
-// Two operands, and an instruction that takes them.
-#[cycle(emit)]
-fn emit_two(
-    alloc: Global,
-    draft: &mut ImageDraft,
-    rows: &mut Vec<CodeRow>,
-    externals: &[External],
-    first: &Node,
-    second: &Node,
-    instruction: Instruction,
-) -> Result<(), NoMemory>
-    requires { IsNarrow instruction }
-    ensures { OnOk result (Written (both (part_of (map external_of externals.now) (tree_of first.now)) (both (part_of (map external_of externals.now) (tree_of second.now)) (one instruction))) rows.old.items rows.new.items draft.old draft.new) }
-{
-    emit(alloc, draft, rows, externals, first)?;
-    emit(alloc, draft, rows, externals, second)?;
-    put(rows, instruction)
-}
-
 // A run of prefix operators: the operand that is none, and the operators from the innermost out.
 #[cycle(emit)]
 fn emit_prefixes(
@@ -230,11 +202,7 @@ fn emit_prefixes(
 {
     let mut ops = Vec::new(alloc);
     ops.push(op)?;
-    let mut operand = inner;
-    while let Node::Prefix { op, inner } = operand {
-        ops.push(*op)?;
-        operand = inner;
-    }
+    let operand = under_prefixes(&mut ops, inner)?;
     emit(alloc, draft, rows, externals, operand)?;
     put_prefixes(rows, ops)
 }

@@ -5,18 +5,16 @@ ghost use Rattle.yr_pattern.specs.Tree.{tree_of as pattern_of};
 ghost use Rattle.yr_rules.specs.NodeTree.{set_of};
 ghost use Rattle.yr_image.specs.Image.{Image};
 ghost use Rattle.yr_emission.specs.Parts.{one, both, text_part, pattern_part, set_part, entries_part, numbers_of};
-ghost use Rattle.yr_emission.specs.Prefixed.{PutUnder};
 ghost use Rattle.yr_emission.specs.Sayable.{IsNarrow};
 ghost use Rattle.yr_emission.specs.Written.{SaysIf, HasRow, Written};
 
-use crate::choosing::prefix_row;
 use crate::row::row_of;
 use std::alloc::Global;
 use yr_base::NoMemory;
 use yr_image::{Arithmetic, CodeRow, Instruction, OfForm, QuantifierKind};
 use yr_pattern::size;
 use yr_program::assemble;
-use yr_rules::{Members, Pattern, PrefixOp};
+use yr_rules::{Members, Pattern};
 use yr_tables::ImageDraft;
 
 /// The most moves of a program.
@@ -139,15 +137,4 @@ pub fn put_entries(rows: &mut Vec<CodeRow>, id: u16) -> Result<(), NoMemory>
     put(rows, field(false, id))?;
     put(rows, Instruction::Number(1))?;
     put(rows, Instruction::Arith(Arithmetic::Subtract))
-}
-
-/// The operators of a run of prefixes, from the last one on.
-pub fn put_prefixes(rows: &mut Vec<CodeRow>, ops: Vec<PrefixOp>) -> Result<(), NoMemory>
-    ensures { OnOk result (PutUnder ops.items rows.old.items rows.new.items) }
-{
-    let mut left = ops;
-    while let Some(op) = left.pop() {
-        put(rows, prefix_row(op))?;
-    }
-    Ok(())
 }

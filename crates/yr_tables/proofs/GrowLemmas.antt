@@ -30,7 +30,7 @@ range_added xs ys = ap (λ l. take (length ys) l) (drop-append_seam xs ys) ∙ t
 pub kept_range : {X : Type 0} (old new : List X) (first count : ℕ) → BeginsAs old new → first + count ≤ length old → take count (drop first new) ≡ take count (drop first old)
 kept_range old new first count b h = ap (λ l. take count (drop first l)) b.1 ∙ range_left old b.0 first count h
 
-kept_at : {X : Type 0} (old new : List X) (k : ℕ) (x : X) → BeginsAs old new → slice_get old k ≡ Some x → slice_get new k ≡ Some x
+pub kept_at : {X : Type 0} (old new : List X) (k : ℕ) (x : X) → BeginsAs old new → slice_get old k ≡ Some x → slice_get new k ≡ Some x
 kept_at old new k x b h = ap (λ l. slice_get l k) b.1 ∙ get_left old b.0 k (slice_get_within old k x h) ∙ h
 
 pub longer : {X : Type 0} (old new : List X) → BeginsAs old new → length old ≤ length new

@@ -1,7 +1,7 @@
 use Rattle.std.proofs.Common.{◌≡◌, List, ◌++◌, vec_len}
 use Rattle.yr_syntax.specs.declared.operator.PrefixOp.{PrefixOp}
 use Rattle.yr_emission.specs.Prefixed.{PutUnder}
-use Rattle.yr_emission.proofs.putting.put_prefixes.Given as goal
+use Rattle.yr_emission.proofs.prefixes.put_prefixes.Given as goal
 
 abbrev pub invariant-loop-op : goal.invariant-loop-op
 invariant-loop-op l =
