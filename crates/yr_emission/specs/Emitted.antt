@@ -1,5 +1,5 @@
 -- The code of a rule that was added to an image.
-use Rattle.std.specs.Prelude.{◌≡◌, ℕ, ◌+◌, ◌≤◌, List, [], ◌++◌, length, Some}
+use Rattle.std.specs.Prelude.{◌≡◌, ℕ, ◌+◌, ◌*◌, ◌≤◌, List, [], ◌++◌, length, Some}
 use Rattle.yr_base.specs.declared.value.Kind.{Kind}
 use Rattle.yr_rules.specs.NodeTree.{NodeTree}
 use Rattle.yr_rules.specs.Rules.{PlainExternal}
@@ -11,6 +11,10 @@ use Rattle.yr_tables.specs.Growing.{Grows}
 use Rattle.yr_emission.specs.Parts.{rule_part}
 use Rattle.yr_emission.specs.Standing.{Stands}
 use Rattle.yr_emission.specs.Written.{stored_bytes, put_back}
+
+-- the bytes of an image's code, list rows, texts and programs
+abbrev pub code_bytes : Image → ℕ
+code_bytes image = 16 * length image.code + 4 * length image.lists + stored_bytes image
 
 -- So many rows of code were added from `first` on, with list rows, texts and programs, and nothing else. For a checked condition they are its code.
 pub record Emitted (externals : List PlainExternal) (c : NodeTree) (old new : Image) (first count : ℕ) : Type 0 where

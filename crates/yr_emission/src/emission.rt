@@ -14,7 +14,7 @@ use crate::choosing::{
 };
 use crate::kind::value_kind;
 use crate::looping::{LoopStart, begin_row, start_of};
-use crate::prefixes::{put_prefixes, under_prefixes};
+use crate::prefixes::{go_under, put_prefixes};
 use crate::putting::{
     field, members_of, place, put, put_entries, put_first, put_pattern, put_set, put_text, saying,
 };
@@ -202,7 +202,11 @@ fn emit_prefixes(
 {
     let mut ops = Vec::new(alloc);
     ops.push(op)?;
-    let operand = under_prefixes(&mut ops, inner)?;
+    let mut operand = inner;
+    while let Node::Prefix { op, inner } = operand {
+        go_under(&mut ops, *op)?;
+        operand = inner;
+    }
     emit(alloc, draft, rows, externals, operand)?;
     put_prefixes(rows, ops)
 }
