@@ -43,7 +43,7 @@ emitted externals c rows old draft new first count w e at n =
       rows = rows;
       is_first = at ∙ ap length code;
       is_count = n;
-      size = written_count x [] rows old draft (sized_both (part_of externals c) (one i.End) (sized externals c) (sized_one i.End)) w;
+      size = omega (arith, written_count x [] rows old draft (sized_both (part_of externals c) (one i.End) (sized externals c) (sized_one i.End)) w);
       code = ap (λ l. l ++ rows) code;
       lists = w.lists;
       grows = record { sets = w.grows.sets; programs = w.grows.programs; moves = w.grows.moves; pool = w.grows.pool };

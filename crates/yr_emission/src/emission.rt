@@ -62,17 +62,13 @@ pub fn emit(
             emit_place(alloc, draft, rows, externals, place)?;
             put(rows, found_row(place, name_of(*string)))
         }
-        Node::Count {
-            string,
-            range: None,
-        } => put(rows, Instruction::Count(name_of(*string))),
-        Node::Count {
-            string,
-            range: Some(range),
-        } => {
-            emit_range(alloc, draft, rows, externals, range)?;
-            put(rows, Instruction::CountIn(name_of(*string)))
-        }
+        Node::Count { string, range } => match range {
+            None => put(rows, Instruction::Count(name_of(*string))),
+            Some(range) => {
+                emit_range(alloc, draft, rows, externals, range)?;
+                put(rows, Instruction::CountIn(name_of(*string)))
+            }
+        },
         Node::Offset {
             string,
             index: None,

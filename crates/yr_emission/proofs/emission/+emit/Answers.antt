@@ -45,21 +45,20 @@ emit-returns-in_ok-emit_place-in-Found t c =
     subst (λ x. OnOk res (Written (part_of ext x) r0 r2 d0 d1)) (sym e)
     (then_row res (place_part ext w) q r0 r1 r2 d0 d1 (sized_place ext w) c.in_ok-emit_place-in-Found.ensures row)
 
-pub emit-returns-in_ok-emit_range-in-Count-default-Some : goal.emit-returns-in_ok-emit_range-in-Count-default-Some
-emit-returns-in_ok-emit_range-in-Count-default-Some t c =
+pub emit-returns-in_ok-emit_range-in-Some : goal.emit-returns-in_ok-emit_range-in-Some
+emit-returns-in_ok-emit_range-in-Some t c =
     let ext = map external_of c.args.externals.now in
-    let r0 = c.args.rows.now.items in let r1 = c.emit_range.new.rows.items in let r2 = c.put-in-Count-default-Some.new.rows.items in
+    let r0 = c.args.rows.now.items in let r1 = c.emit_range.new.rows.items in let r2 = c.put-in-Some.new.rows.items in
     let d0 = c.args.draft.now in let d1 = c.emit_range.new.draft in
-    let s = c.in-Count-default-Some.string in let range = c.in-Count-default-Some.range in
+    let s = c.in-Count.string in let range = c.in-Some.range in
     let low = (bounds_of range).low in let high = (bounds_of range).high in let q = i.CountIn (name_of s) in
-    let there = c.in-Count-default-Some.range-is' in
-    let e = ap tree_of c.in-Count-default-Some.is ∙ tree_of-Count s c.in-Count-default-Some.range' ∙ ap (λ o. count_of s (option_map bounds_of o)) there in
+    let e = ap tree_of c.in-Count.is ∙ tree_of-Count s c.in-Count.range ∙ ap (λ o. count_of s (option_map bounds_of o)) c.in-Some.is in
     let x = both (part_of ext low) (part_of ext high) in
-    let res = c.put-in-Count-default-Some.result in
-    let row = subst (λ k. OnOk res (HasRow (i.CountIn k) r1 r2)) c.name_of-in-Count-default-Some.ensures c.put-in-Count-default-Some.ensures in
+    let res = c.put-in-Some.result in
+    let row = subst (λ k. OnOk res (HasRow (i.CountIn k) r1 r2)) c.name_of-in-Some.ensures c.put-in-Some.ensures in
     subst (λ x. OnOk res (Written (part_of ext x) r0 r2 d0 d1)) (sym e)
     (OnOk-map res (Written (both x (one q)) r0 r2 d0 d1) (Written (part_of ext (CountIn s low high)) r0 r2 d0 d1) (written_assoc (part_of ext low) (part_of ext high) (one q) r0 r2 d0 d1)
-    (then_row res x q r0 r1 r2 d0 d1 (sized_both (part_of ext low) (part_of ext high) (sized ext low) (sized ext high)) c.in_ok-emit_range-in-Count-default-Some.ensures row))
+    (then_row res x q r0 r1 r2 d0 d1 (sized_both (part_of ext low) (part_of ext high) (sized ext low) (sized ext high)) c.in_ok-emit_range-in-Some.ensures row))
 
 pub emit-returns-in_ok-emit-in-Chain : goal.emit-returns-in_ok-emit-in-Chain
 emit-returns-in_ok-emit-in-Chain t c =
