@@ -16,5 +16,5 @@ returns c =
     let d0 = c.args.draft.now in let d1 = c.emit.new.draft in
     let w = subst (λ r. Written x r r1 d0 d1) c.new-rows.ensures.items c.in_ok-emit.ensures in
     let whole = written_both x (one i.End) [] r1 r2 d0 d1 d1 (sized ext tree) w (written_one i.End r1 r2 d1 c.in_ok-put.ensures) in
-    let added = subst (λ l. c.put_code.new.self ≡ record d1 { code = d1.code ++ l }) c.deref.ensures c.in_ok-first.ensures.rows in
+    let added = subst (λ l. c.put_code.new.self ≡ record d1 { code = d1.code ++ l }) c.deref.ensures.value c.in_ok-first.ensures.rows in
     emitted ext tree r2 d0 d1 c.put_code.new.self c.in_ok-first.first c.in_ok-count.count whole added c.in_ok-first.ensures.first (c.in_ok-count.ensures ∙ (c.len.ensures ∙ c.put.new.rows.ok.0))
