@@ -1,0 +1,4 @@
+//! Images of rules.
+#![tactic(auto)]
+
+pub mod laws;
