@@ -5,6 +5,7 @@ use Rattle.std.proofs.lemmas.List.{length-map}
 use Rattle.std.proofs.lemmas.List.Elements.{All-head, All-tail}
 use Rattle.std.proofs.lemmas.Option.{none-some, same_Some, slice_get_within, slice_get_cases, option_and_then_some}
 use Rattle.yr_base.specs.declared.value.Kind.{Kind}
+use Rattle.yr_base.specs.declared.value.Kind.TheVariants as kind
 use Rattle.yr_values.specs.Values as value
 use Rattle.yr_rules.specs.NodeTree.{NodeTree}
 use Rattle.yr_rules.specs.Rules.{PlainExternal, PlainString, PlainRule, PlainRules}
@@ -75,12 +76,12 @@ externals_show image externals say n k h =
     count = say_count image (map external_note externals) image.externals say ∙ length-map externals external_note
 
     found : (e : PlainExternal) → slice_get externals n ≡ Some e → value.kind_of e.value ≡ Some k → role.external_kind image n ≡ k
-    found e at kind =
+    found e at kind_is =
         let row = listing.there_too externals image.externals n e (omega (arith, count)) at in
         let note = listing.note_at image (map external_note externals) image.externals n row.0 say row.1 in
         let same : note.0 ≡ external_note e = same_Some note.0 (external_note e) (sym note.1 ∙ mapped external_note externals n e at) in
         let says : SaysNote image (external_note e) row.0 = subst (λ (x : Note). SaysNote image x row.0) same note.2 in
-        ap (λ (o : Option NoteRow). option_map_or (λ (r : NoteRow). kind_of_note r.kind) o _) row.1 ∙ value_kind image e.value row.0 k says.1 kind
+        ap (λ (o : Option NoteRow). option_map_or (λ (r : NoteRow). kind_of_note r.kind) o kind.Number) row.1 ∙ value_kind image e.value row.0 k says.1 kind_is
 
 module _ (image : Image) (rules : PlainRules) (good : IsWellformed rules) (ids : HaveIds rules) (built : IsBuilt image rules) where
   pub count_externals : length image.externals ≡ length rules.externals

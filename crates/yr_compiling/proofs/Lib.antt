@@ -1,2 +1,4 @@
 mod CheckLemmas
 mod TruthLemmas
+mod ReportLemmas
+mod CompiledLemmas
