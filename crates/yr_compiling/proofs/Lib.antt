@@ -2,3 +2,5 @@ mod CheckLemmas
 mod TruthLemmas
 mod ReportLemmas
 mod CompiledLemmas
+mod CodeLemmas
+mod BuildLemmas

@@ -1,7 +1,7 @@
 mod TextLemmas
 pub mod NoteLemmas
 mod RuleLemmas
-mod LoopLemmas
+pub mod LoopLemmas
 pub mod ListedLemmas
 pub mod PassLemmas
 pub mod NameLemmas
