@@ -1,7 +1,7 @@
 mod TextLemmas
-mod NoteLemmas
+pub mod NoteLemmas
 mod RuleLemmas
-mod LoopLemmas
-mod ListedLemmas
-mod PassLemmas
-mod NameLemmas
+pub mod LoopLemmas
+pub mod ListedLemmas
+pub mod PassLemmas
+pub mod NameLemmas

@@ -95,7 +95,7 @@ all_differ (n ∷ names) zero (suc j) a b d l h g =
 all_differ (n ∷ names) (suc i) zero a b d l h g = absurd (omega (arith, l))
 all_differ (n ∷ names) (suc i) (suc j) a b d l h g = all_differ names i j a b (first_differs n names d).1 (omega (arith, l)) h g
 
-mapped : {X Y : Type 0} (f : X → Y) (xs : List X) (k : ℕ) (x : X) → slice_get xs k ≡ Some x → slice_get (map f xs) k ≡ Some (f x)
+pub mapped : {X Y : Type 0} (f : X → Y) (xs : List X) (k : ℕ) (x : X) → slice_get xs k ≡ Some x → slice_get (map f xs) k ≡ Some (f x)
 mapped f [] k x h = absurd (none-some x h)
 mapped f (y ∷ xs) zero x h = ap (λ z. Some (f z)) (same_Some y x h)
 mapped f (y ∷ xs) (suc k) x h = mapped f xs k x h

@@ -25,7 +25,7 @@ both a b e f = ap₂ (λ x y. x && y) e f
 either_left : (a b : Bool) → a ≡ true → (a || b) ≡ true
 either_left a b e = ap (λ x. x || b) e
 
-either_right : (a b : Bool) → b ≡ true → (a || b) ≡ true
+pub either_right : (a b : Bool) → b ≡ true → (a || b) ≡ true
 either_right true b e = refl
 either_right false b e = e
 
