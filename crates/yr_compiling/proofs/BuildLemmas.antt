@@ -1,6 +1,10 @@
 -- Strings, externals, code and rules that are put one after another into an empty image make one that is built of the rules.
-use Rattle.std.proofs.Common.{◌≡◌, ℕ, ◌+◌, ◌*◌, ◌<◌, ◌≤◌, List, [], ◌∷◌, ◌++◌, length, map, Some, slice_get, refl, sym, ap, ap₂, ◌∙◌, subst, arith}
+use Rattle.std.proofs.Common.{◌≡◌, ℕ, ◌+◌, ◌*◌, ◌<◌, ◌≤◌, List, [], ◌∷◌, ◌++◌, length, map, is_some, Bool, true, false, true≢false, All, Option, Some, None, slice_get, get_or, refl, sym, ap, ap₂, ◌∙◌, subst, arith}
 use Rattle.std.proofs.lemmas.List.{append-nil}
+use Rattle.std.proofs.lemmas.Option.{slice_get-get_or}
+use Rattle.yr_rules.specs.Kinds.{kind_of}
+use Rattle.yr_rules.specs.Wellformed.{IsWellformed}
+use Rattle.yr_listings.specs.Rules.{HasShortTexts}
 use Rattle.yr_rules.specs.Rules.{PlainRule, PlainRules}
 use Rattle.yr_rules.specs.Weight.{total, rule_weight, string_weight, external_weight, node_weight, weight_of}
 use Rattle.yr_image.specs.declared.rows.NoteRow.{NoteRow}
@@ -18,7 +22,7 @@ use Rattle.yr_listings.specs.Notes.{SayNotes, external_note}
 use Rattle.yr_listings.specs.Codes.{range_end, FollowCodes}
 use Rattle.yr_listings.specs.Putting.{PutsExternals, PutsRules, listing_weight}
 use Rattle.yr_listings.proofs.NoteLemmas.{notes_stay}
-use Rattle.yr_compiling.specs.Built.{HasRuleCode, IsBuilt, PutsCodes, condition_weight}
+use Rattle.yr_compiling.specs.Built.{HasKind, HasRuleCode, IsBuilt, PutsCodes, condition_weight}
 use Rattle.yr_compiling.proofs.CodeLemmas.{code_stays}
 
 rules_weigh : (rules : List PlainRule) → total rule_weight rules ≡ total listing_weight rules + total condition_weight rules
@@ -90,3 +94,23 @@ module _ (rules : PlainRules) (first second third last : Image) (codes : List Co
         let start : encoded_length empty_image ≤ 64 = omega arith in
         omega (arith, a, b, c, d, e, start);
   }
+
+-- ---- what checked rules keep
+
+some_of : {X : Type 0} (o : Option X) → is_some o ≡ true → (x : X) × (o ≡ Some x)
+some_of (Some x) h = (x, refl)
+some_of None h = absurd (true≢false (sym h))
+
+pub have_kinds : (rules : PlainRules) → IsWellformed rules → All (HasKind rules.externals) rules.rules
+have_kinds rules good k d b =
+    let rule : PlainRule = get_or rules.rules k d in
+    let g = good.good_rules k rule (slice_get-get_or rules.rules k d b) in
+    let kind = some_of (kind_of rules.externals rule.condition []) g.kinds in
+    record { kind = kind.0; bounds = record { externals = length rules.externals; rules = k; strings = length rules.strings }; is = kind.1; fits = g.fits }
+
+pub short_texts : (rules : PlainRules) → IsWellformed rules → All HasShortTexts rules.rules
+short_texts rules good k d b =
+    let g = good.good_rules k (get_or rules.rules k d) (slice_get-get_or rules.rules k d b) in (g.name.2, g.space.1)
+
+pub below : (image : Image) (rules : PlainRules) → IsBuilt image rules → IsWellformed rules → encoded_length image < 4294967296
+below image rules built good = let s = built.short in let l = good.light in omega (arith, s, l)

@@ -13,6 +13,7 @@ use Rattle.yr_image.specs.declared.instruction.Instruction.TheVariants as i
 use Rattle.yr_image.specs.Image.{Image}
 use Rattle.yr_tables.specs.Growing.{BeginsAs, Grows}
 use Rattle.yr_tables.proofs.GrowLemmas.{grows_same, kept_range}
+use Rattle.yr_splits.proofs.ProgramLemmas.{programs_stay}
 use Rattle.yr_emission.specs.Parts.{Part, one, part_of, rule_part}
 use Rattle.yr_emission.specs.Standing.{Stands}
 use Rattle.yr_emission.specs.Written.{stored_bytes, put_back, Written}
@@ -47,6 +48,7 @@ emitted externals c rows old draft new first count w e at n =
       code = ap (λ l. l ++ rows) code;
       lists = w.lists;
       grows = record { sets = w.grows.sets; programs = w.grows.programs; moves = w.grows.moves; pool = w.grows.pool };
+      programs = λ h. programs_stay draft (coded draft rows) same refl refl (w.programs h);
       few = w.few;
       others = ap (λ (m : Image). record m { code = old.code }) w.others;
       stands = λ k bounds g f.

@@ -18,6 +18,7 @@ use Rattle.yr_tables.specs.Growing.{Grows, move_behind, moves_behind}
 use Rattle.yr_tables.specs.Added.{HasText, row_behind, with_program}
 use Rattle.yr_tables.specs.Programs.{AcceptSpans, IsProgramOf}
 use Rattle.yr_tables.proofs.GrowLemmas.{grows_after, grows_same, program_added, program_grows, kept_range, longer}
+use Rattle.yr_splits.proofs.ProgramLemmas.{programs_stay, programs_more}
 use Rattle.yr_emission.specs.Parts.{Part, Line, exactly, gives_text, asks, one, text_part, pattern_part, nothing, both, skipping, looping, set_part}
 use Rattle.yr_emission.specs.Standing.{IsTextAt}
 use Rattle.yr_emission.specs.Written.{SaysIf, HasRow, Tells, TellAll, stored_bytes, put_back, Written}
@@ -77,6 +78,7 @@ written_both x y r0 r1 r2 i0 i1 i2 size p q =
       tell = tell_append i2 (x.rows n m) (y.rows (n + x.size) (m + length x.lists)) p.more q.more (tell_grows i1 i2 q.grows (x.rows n m) p.more p.tell) second;
       lists = q.lists ∙ ap (λ l. l ++ y.lists) p.lists ∙ append_assoc i0.lists x.lists y.lists;
       grows = grows_after i0 i1 i2 p.grows q.grows;
+      programs = λ h. q.programs (p.programs h);
       few = omega (arith, p.few, q.few);
       others = ap (put_back i0) q.others ∙ p.others;
     }
@@ -97,6 +99,7 @@ written_assoc x y z r0 r1 i0 i1 w =
       tell = subst (λ ls. TellAll i1 ls w.more) e w.tell;
       lists = w.lists ∙ ap (λ l. i0.lists ++ l) (append_assoc x.lists y.lists z.lists);
       grows = w.grows;
+      programs = w.programs;
       few = omega (arith, w.few);
       others = w.others;
     }
@@ -108,6 +111,7 @@ written_nothing r image = record {
   tell = tt;
   lists = sym (append-nil image.lists);
   grows = grows_same image image refl refl refl refl;
+  programs = λ h. h;
   few = omega arith;
   others = refl;
 }
@@ -119,6 +123,7 @@ written_one r r0 r1 image h = record {
   tell = (h.says, tt);
   lists = sym (append-nil image.lists);
   grows = grows_same image image refl refl refl refl;
+  programs = λ h. h;
   few = omega arith;
   others = refl;
 }
@@ -128,12 +133,14 @@ written_text t place r0 r1 old new h row =
     let sets : new.sets ≡ old.sets = ap (λ (x : Image). x.sets) h.others in
     let programs : new.programs ≡ old.programs = ap (λ (x : Image). x.programs) h.others in
     let moves : new.moves ≡ old.moves = ap (λ (x : Image). x.moves) h.others in
+    let grown : Grows old new = record { sets = ([], sets ∙ sym (append-nil old.sets)); programs = ([], programs ∙ sym (append-nil old.programs)); moves = ([], moves ∙ sym (append-nil old.moves)); pool = h.begins } in
     record {
       more = row.row ∷ [];
       rows = row.added;
       tell = ((place, row.says tt, record { inside = h.inside; reads = h.reads }), tt);
       lists = ap (λ (x : Image). x.lists) h.others ∙ sym (append-nil old.lists);
-      grows = record { sets = ([], sets ∙ sym (append-nil old.sets)); programs = ([], programs ∙ sym (append-nil old.programs)); moves = ([], moves ∙ sym (append-nil old.moves)); pool = h.begins };
+      grows = grown;
+      programs = programs_stay old new grown programs moves;
       few = omega (arith, h.few, ap length sets, ap length programs, ap length moves);
       others = ap (put_back old) h.others;
     }
@@ -148,17 +155,19 @@ written_pattern p program moves sets r0 r1 old new good accepts size few e here 
     let q : length new.programs ≡ length old.programs + 1 = ap (λ (x : Image). length x.programs) e ∙ length-append old.programs (row_behind old.moves moves ∷ []) in
     let is = program_added old (with_program old moves sets) false p moves sets (row_behind old.moves moves) good accepts refl refl refl refl refl in
     let is' = subst (λ (x : Image). IsProgramOf x false p program) (sym e) (subst (λ n. IsProgramOf (with_program old moves sets) false p n) (sym here) is) in
+    let grown : Grows old new = record {
+      sets = (sets, ap (λ (x : Image). x.sets) e);
+      programs = (row_behind old.moves moves ∷ [], ap (λ (x : Image). x.programs) e);
+      moves = (moves_behind (length old.sets) moves, ap (λ (x : Image). x.moves) e);
+      pool = ([], ap (λ (x : Image). x.pool) e ∙ sym (append-nil old.pool));
+    } in
     record {
       more = row.row ∷ [];
       rows = row.added;
       tell = ((program, row.says tt, is'), tt);
       lists = ap (λ (x : Image). x.lists) e ∙ sym (append-nil old.lists);
-      grows = record {
-        sets = (sets, ap (λ (x : Image). x.sets) e);
-        programs = (row_behind old.moves moves ∷ [], ap (λ (x : Image). x.programs) e);
-        moves = (moves_behind (length old.sets) moves, ap (λ (x : Image). x.moves) e);
-        pool = ([], ap (λ (x : Image). x.pool) e ∙ sym (append-nil old.pool));
-      };
+      grows = grown;
+      programs = programs_more old new moves sets (row_behind old.moves moves) grown good (ap (λ (x : Image). x.sets) e) (ap (λ (x : Image). x.moves) e) (ap (λ (x : Image). x.programs) e) refl refl;
       few = omega (arith, s, m, q, size, few, ap (λ (x : Image). length x.pool) e);
       others = ap (put_back old) e;
     }
@@ -174,6 +183,8 @@ written_members members r old new e = record {
   tell = tt;
   lists = ap (λ (x : Image). x.lists) e;
   grows = grows_same old new (ap (λ (x : Image). x.sets) e) (ap (λ (x : Image). x.programs) e) (ap (λ (x : Image). x.moves) e) (ap (λ (x : Image). x.pool) e);
+  programs = programs_stay old new (grows_same old new (ap (λ (x : Image). x.sets) e) (ap (λ (x : Image). x.programs) e) (ap (λ (x : Image). x.moves) e) (ap (λ (x : Image). x.pool) e))
+      (ap (λ (x : Image). x.programs) e) (ap (λ (x : Image). x.moves) e);
   few = omega (arith, ap (λ (x : Image). stored_bytes x) e);
   others = ap (put_back old) e;
 }
@@ -188,6 +199,7 @@ written_set f q members first r0 r1 old new e here row =
       tell = (λ s. row.says s ∙ ap (λ n. Some (i.Of f q n (length members))) here, tt);
       lists = w.lists;
       grows = w.grows;
+      programs = w.programs;
       few = w.few;
       others = w.others;
     }
@@ -227,6 +239,7 @@ written_skipping skip z x r0 r1 r2 r3 r4 r5 r6 i0 i1 at end row size h1 here h2 
       tell = (h1.says, (subst (λ k. SaysIf (skip k) row) until says, tell_append i1 (x.rows (n + 1 + 1) m) (exactly i.Truth ∷ exactly i.Settle ∷ []) w.more (h4.row ∷ h5.row ∷ []) body (h4.says, (h5.says, tt))));
       lists = w.lists;
       grows = w.grows;
+      programs = w.programs;
       few = w.few;
       others = w.others;
     }
@@ -254,6 +267,7 @@ written_looping begin members z x r0 r1 r2 r3 r4 r5 i0 i1 i2 at first end row si
       );
       lists = w.lists ∙ ap (λ l. l ++ x.lists) ws.lists ∙ append_assoc i0.lists members x.lists;
       grows = grows_after i0 i1 i2 ws.grows w.grows;
+      programs = λ h. w.programs (ws.programs h);
       few = omega (arith, ws.few, w.few);
       others = ap (put_back i0) w.others ∙ ws.others;
     }

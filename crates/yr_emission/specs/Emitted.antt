@@ -8,6 +8,7 @@ use Rattle.yr_rules.specs.Fits.{Rows, Fits}
 use Rattle.yr_image.specs.declared.rows.CodeRow.{CodeRow}
 use Rattle.yr_image.specs.Image.{Image}
 use Rattle.yr_tables.specs.Growing.{Grows}
+use Rattle.yr_splits.specs.Programs.{AreProgramRows}
 use Rattle.yr_emission.specs.Parts.{rule_part}
 use Rattle.yr_emission.specs.Standing.{Stands}
 use Rattle.yr_emission.specs.Written.{stored_bytes, put_back}
@@ -25,6 +26,7 @@ pub record Emitted (externals : List PlainExternal) (c : NodeTree) (old new : Im
   pub code : new.code ≡ old.code ++ rows
   pub lists : new.lists ≡ old.lists ++ (rule_part externals c).lists
   pub grows : Grows old new
+  pub programs : AreProgramRows old → AreProgramRows new
   pub few : stored_bytes new ≤ stored_bytes old + (rule_part externals c).stored
   pub others : record (put_back old new) { code = old.code } ≡ old
   pub stands : (k : Kind) (bounds : Rows) → kind_of externals c [] ≡ Some k → Fits bounds c [] → Stands new rows (rule_part externals c) 0 (length old.lists)

@@ -5,6 +5,7 @@ use Rattle.yr_image.specs.declared.instruction.Instruction.{Instruction}
 use Rattle.yr_image.specs.Image.{Image}
 use Rattle.yr_image.specs.Instructions.{instruction_of}
 use Rattle.yr_tables.specs.Growing.{Grows}
+use Rattle.yr_splits.specs.Programs.{AreProgramRows}
 use Rattle.yr_emission.specs.Parts.{Part, Line, exactly, gives_text, asks}
 use Rattle.yr_emission.specs.Sayable.{IsSayable}
 use Rattle.yr_emission.specs.Standing.{Fulfils}
@@ -48,5 +49,6 @@ pub record Written (x : Part) (before after : List CodeRow) (old new : Image) : 
   pub tell : TellAll new (x.rows (length before) (length old.lists)) more
   pub lists : new.lists ≡ old.lists ++ x.lists
   pub grows : Grows old new
+  pub programs : AreProgramRows old → AreProgramRows new
   pub few : stored_bytes new ≤ stored_bytes old + x.stored
   pub others : put_back old new ≡ old

@@ -134,8 +134,7 @@ module _ (image : Image) (version : image.version ≡ 2) (rules : PlainRules) (g
       → (k : ℕ) → At (λ row. (is_name (note_name image row) ≡ true) × IsNewName image k row) image.externals k
   external_names say k row h =
       let e = external_named say k row h in
-      let w : IsShortWord e.0.name = all_at (λ x. IsShortWord x.name) rules.externals k e.0 good.externals_named e.1 in
-      (
+      let w : IsShortWord e.0.name = all_at (λ x. IsShortWord x.name) rules.externals k e.0 good.externals_named e.1 in (
         ap is_name e.2 ∙ word_passes e.0.name w.0 w.1,
         λ earlier before other there same.
             let f = external_named say earlier other there in

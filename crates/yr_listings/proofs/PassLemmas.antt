@@ -86,12 +86,11 @@ module _ (image : Image) where
       (ap (λ k. nat_le 1 k) h.0, ap (λ k. nat_le k 3) h.0, ap (λ k. by_kind k row) h.0 ∙ text_passes t row.value row.value_length h.1)
   value_passes (Number n) row h =
       (ap (λ k. nat_le 1 k) h.0, ap (λ k. nat_le k 3) h.0, ap (λ k. by_kind k row) h.0 ∙ (Decides-eqb row.value_length 0).1 h.1)
-  value_passes (Flag b) row h =
-      (
-        ap (λ k. nat_le 1 k) h.0,
-        ap (λ k. nat_le k 3) h.0,
-        ap (λ k. by_kind k row) h.0 ∙ both (row.value_length == 0) (nat_le row.value 1) ((Decides-eqb row.value_length 0).1 h.1) (ap (λ v. nat_le v 1) h.2 ∙ flag_low b),
-      )
+  value_passes (Flag b) row h = (
+    ap (λ k. nat_le 1 k) h.0,
+    ap (λ k. nat_le k 3) h.0,
+    ap (λ k. by_kind k row) h.0 ∙ both (row.value_length == 0) (nat_le row.value 1) ((Decides-eqb row.value_length 0).1 h.1) (ap (λ v. nat_le v 1) h.2 ∙ flag_low b),
+  )
   value_passes Undefined row h = absurd h
 
   note_passes : (note : Note) (row : NoteRow) → SaysNote image note row → is_good_note image row ≡ true
@@ -235,7 +234,7 @@ module _ (image : Image) where
         let within : k < length image.rules = slice_get_within image.rules k row h in
         let last : (nat_lt (k + 1) (length image.rules) || ends_sections image row) ≡ true =
         ⊎_elim (λ b. either_left (nat_lt (k + 1) (length image.rules)) (ends_sections image row) ((Decides-ltb (k + 1) (length image.rules)).1 b))
-            (λ b. either_right (nat_lt (k + 1) (length image.rules)) (ends_sections image row) (last_ends k row h (omega (arith, within, b)))) (cases_lt (k + 1) (length image.rules)) in
+        (λ b. either_right (nat_lt (k + 1) (length image.rules)) (ends_sections image row) (last_ends k row h (omega (arith, within, b)))) (cases_lt (k + 1) (length image.rules)) in
         let code : row.first_code ≡ end_before code_end image.rules k =
         s.first_code ∙ follow.follow k r.1 r.3 ∙ sym (codes_before k (omega (arith, within))) in
         let string : row.first_string ≡ end_before strings_end image.rules k = first_string k row h ∙ sym (strings_before k (omega (arith, within))) in

@@ -6,6 +6,8 @@ mod external;
 pub mod laws;
 mod note;
 mod rule;
+#[cfg(test)]
+mod tests;
 
 pub use code_range::CodeRange;
 pub use external::put_externals;
