@@ -1,25 +1,25 @@
 -- What the rows of a checked condition say can be said.
-use Rattle.std.proofs.Common.{◌≡◌, ℕ, ◌+◌, ◌<◌, ◌≤◌, Bool, true, false, List, [], ◌∷◌, ◌++◌, length, Option, Some, None, refl, sym, ap, ◌∙◌, subst, arith}
+use Rattle.std.proofs.Common.{◌≡◌, ℕ, ◌+◌, ◌<◌, Bool, true, false, List, [], ◌∷◌, ◌++◌, length, Option, Some, None, refl, sym, ap, ◌∙◌, subst, arith}
 use Rattle.yr_base.specs.declared.value.Kind.{Kind}
 use Rattle.yr_base.specs.declared.value.Kind.TheVariants as kind
 use Rattle.yr_syntax.specs.declared.operator.PrefixOp.{PrefixOp}
 use Rattle.yr_syntax.specs.declared.operator.PrefixOp.TheVariants as prefix
 use Rattle.yr_syntax.specs.declared.operator.Infix.{Infix}
 use Rattle.yr_syntax.specs.declared.operator.Infix.TheVariants as op
-use Rattle.yr_rules.specs.NodeTree.{NodeTree, NodeLinks, NodeItems, NodeWhere, NodeAsked, NodeDomain, NodeSet, Strings, Rules, Number, Text, Flag, FileSize, External, RuleTruth, Var, Field, FieldAt, Call, Found, Count, CountIn, Offset, OffsetAt, Length, LengthAt, Read, Prefix, Chain, Matches, Of, ForOf, ForIn, no_link, link, no_item, item, Anywhere, At, Within, All as Every, Any, Nil, AtLeast, Percent, OverRange, OverList, OverEntries}
+use Rattle.yr_rules.specs.NodeTree.{NodeTree, NodeLinks, NodeItems, NodeWhere, NodeAsked, NodeDomain, Strings, Rules, Number, Text, Flag, FileSize, External, RuleTruth, Var, Field, FieldAt, Call, Found, Count, CountIn, Offset, OffsetAt, Length, LengthAt, Read, Prefix, Chain, Matches, Of, ForOf, ForIn, no_link, link, no_item, item, Anywhere, At, Within, All as Every, Any, Nil, AtLeast, Percent, OverRange, OverList, OverEntries}
 use Rattle.yr_rules.specs.Rules.{PlainExternal}
-use Rattle.yr_rules.specs.Loops.{Loop, Members, Numbers, Entries, loop_over}
-use Rattle.yr_rules.specs.Kinds.{of_number, of_numbers, of_value, of_ordered, of_alike, both as both_kinds, infix_kind, place_fits, loop_fits, where_true, kind_of, links_kind, place_kind, asked_kind, loop_asked_kind, domain_kind, items_kind}
+use Rattle.yr_rules.specs.Loops.{Loop, Members, loop_over}
+use Rattle.yr_rules.specs.Kinds.{of_number, of_numbers, of_value, of_ordered, infix_kind, place_fits, kind_of, links_kind, place_kind, asked_kind, loop_asked_kind, domain_kind, items_kind}
 use Rattle.yr_rules.specs.Fits.{Rows, Fits, LinksFit, ItemsFit, PlaceFits, AskedFits, DomainFits, count_of as items_in}
 use Rattle.yr_rules.specs.declared.members.StringRef.{StringRef}
 use Rattle.yr_image.specs.declared.instruction.Comparison.TheVariants as comparison
 use Rattle.yr_image.specs.declared.instruction.Instruction.{Instruction}
 use Rattle.yr_image.specs.declared.instruction.Instruction.TheVariants as i
 use Rattle.yr_image.specs.Instructions.{compares}
-use Rattle.yr_emission.specs.Parts.{Line, exactly, Part, one, text_part, pattern_part, nothing, both, skipping, looping, set_part, prefix_row, infix_row, infix_answer, known_kind, value_kind, skips_at, skip_row, link_part, link_part_by, name_of, found_row, reader_row, quantifier_row, form_of, numbers_of, loop_row, strings_row, entries_part, part_of, links_part, place_part, asked_part, domain_part, items_part, rule_part}
+use Rattle.yr_emission.specs.Parts.{Line, exactly, Part, one, pattern_part, nothing, both, skipping, looping, set_part, prefix_row, infix_row, infix_answer, known_kind, value_kind, skips_at, skip_row, link_part, link_part_by, name_of, found_row, quantifier_row, form_of, numbers_of, loop_row, strings_row, part_of, links_part, place_part, asked_part, domain_part, items_part}
 use Rattle.yr_emission.specs.Sayable.{LoopAsks, IsSayable, AreSayable}
 use Rattle.yr_emission.specs.Setting.{IsKinded}
-use Rattle.yr_emission.proofs.KindFacts.{same, nothing as no_kind, second, number_asks, numbers_ask, text_asks, value_asks, first_asked, where_made}
+use Rattle.yr_emission.proofs.KindFacts.{nothing as no_kind, second, number_asks, numbers_ask, text_asks, value_asks, first_asked, where_made}
 use Rattle.yr_emission.proofs.OperatorFacts.{infix_asks, infix_makes, links_ask}
 use Rattle.yr_emission.proofs.GivenKinds.{value_known}
 use Rattle.yr_emission.proofs.Runs.{kinded, index_kinded, AskedKnown, asked_known, loop_asked_known, PlaceKnown, place_known, prefix_asks, number_asked, items_known}

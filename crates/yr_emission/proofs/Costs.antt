@@ -10,7 +10,7 @@ use Rattle.yr_rules.specs.Weight.{variable_weight, node_weight, links_weight, it
 use Rattle.std.specs.Option.{option_or}
 use Rattle.yr_image.specs.declared.instruction.Instruction.{Instruction}
 use Rattle.yr_image.specs.declared.instruction.Instruction.TheVariants as i
-use Rattle.yr_emission.specs.Parts.{Part, part_bytes, one, pattern_part, both, looping, set_part, prefix_row, infix_row, infix_answer, value_kind, skips_at, link_part, link_part_by, name_of, found_row, quantifier_row, form_of, numbers_of, loop_row, strings_row, entries_part, part_of, links_part, place_part, asked_part, domain_part, items_part, rule_part}
+use Rattle.yr_emission.specs.Parts.{Part, part_bytes, one, pattern_part, both, looping, set_part, prefix_row, infix_row, infix_answer, value_kind, skips_at, link_part, link_part_by, name_of, found_row, quantifier_row, form_of, numbers_of, loop_row, strings_row, part_of, links_part, place_part, asked_part, domain_part, items_part, rule_part}
 use Rattle.yr_emission.proofs.KindFacts.{nothing as no_kind, second, number_asks, numbers_ask, text_asks, value_asks, first_asked, where_made}
 use Rattle.yr_emission.proofs.OperatorFacts.{infix_asks, links_ask}
 use Rattle.yr_emission.proofs.Runs.{AskedKnown, asked_known, loop_asked_known, PlaceKnown, place_known, prefix_asks, number_asked, items_known}

@@ -1,8 +1,8 @@
 -- The last step of a part that is written.
-use Rattle.std.proofs.Common.{◌≡◌, ◌⊎◌, inl, inr, ℕ, suc, ◌+◌, ◌<◌, List, [], ◌∷◌, length, map, drop, sym, ap, ◌∙◌, subst, Result, Ok, Err, get_or}
+use Rattle.std.proofs.Common.{◌≡◌, ◌⊎◌, inl, inr, ℕ, ◌+◌, ◌<◌, List, length, map, drop, sym, ap, ◌∙◌, subst, Result, get_or}
 use Rattle.std.specs.Prelude.{OnOk}
 use Rattle.yr_base.specs.declared.value.Kind.{Kind}
-use Rattle.yr_rules.specs.NodeTree.{NodeTree, NodeAsked, links_of, items_of, link_of, tree_of, asked_of}
+use Rattle.yr_rules.specs.NodeTree.{NodeAsked, links_of, items_of, link_of, tree_of, asked_of}
 use Rattle.yr_rules.specs.Rules.{PlainExternal}
 use Rattle.yr_rules.specs.declared.node.Node.{Node}
 use Rattle.yr_rules.specs.declared.node.NodeLink.{NodeLink}

@@ -60,7 +60,7 @@ pub rule_rows : (externals : List PlainExternal) (c : NodeTree) (old new whole :
     → take count (drop first whole.code) ≡ e.rows
 rule_rows externals c old new whole first count e b =
     let here = ap (λ k. take k (drop first new.code)) e.is_count ∙ ap (λ k. take (length e.rows) (drop k new.code)) e.is_first ∙ ap (λ l. take (length e.rows) (drop (length old.code) l)) e.code
-        ∙ ap (λ l. take (length e.rows) l) (drop-append_seam old.code e.rows) ∙ take-length e.rows in
+    ∙ ap (λ l. take (length e.rows) l) (drop-append_seam old.code e.rows) ∙ take-length e.rows in
     let within : first + count ≤ length new.code = omega (arith, e.is_first, e.is_count, ap length e.code, length-append old.code e.rows) in
     kept_range new.code whole.code first count b within ∙ here
 
@@ -78,12 +78,12 @@ rule_size externals c old new whole first count e b = ap length (rule_rows exter
 pub rule_fits : (externals : List PlainExternal) (c : NodeTree) (k : Kind) (old new : Image) (first count : ℕ) → Emitted externals c old new first count → kind_of externals c [] ≡ Some k
     → code_bytes new ≤ code_bytes old + 64 * node_weight c []
 rule_fits externals c k old new first count e h = omega (
-      arith,
-      ap length e.code,
-      length-append old.code e.rows,
-      e.size,
-      ap length e.lists,
-      length-append old.lists (rule_part externals c).lists,
-      e.few,
-      rule_costs externals c k h,
-    )
+  arith,
+  ap length e.code,
+  length-append old.code e.rows,
+  e.size,
+  ap length e.lists,
+  length-append old.lists (rule_part externals c).lists,
+  e.few,
+  rule_costs externals c k h,
+)

@@ -1,5 +1,5 @@
 -- Runs of prefix operators.
-use Rattle.std.proofs.Common.{◌≡◌, List, [], ◌∷◌, ◌++◌, refl, sym, ap, ◌∙◌}
+use Rattle.std.proofs.Common.{◌≡◌, List, [], ◌∷◌, ◌++◌, refl, ap}
 use Rattle.yr_syntax.specs.declared.operator.PrefixOp.{PrefixOp}
 use Rattle.yr_rules.specs.NodeTree.{NodeTree, Prefix}
 use Rattle.yr_rules.specs.Rules.{PlainExternal}

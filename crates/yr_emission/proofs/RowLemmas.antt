@@ -1,21 +1,14 @@
 -- A row that is made for an instruction says it.
-use Rattle.std.proofs.Common.{◌≡◌, ℕ, ◌+◌, ◌*◌, ◌%◌, ◌/◌, ◌<◌, ◌≤◌, ◌&&◌, nat_le, Bool, true, false, Some, refl, sym, ap, ap₂, ◌∙◌, arith, true≢false}
-use Rattle.std.specs.Int.{w64, cast_signed, cast_unsigned}
-use Rattle.std.specs.Prelude.{FitsSigned}
+use Rattle.std.proofs.Common.{◌≡◌, ℕ, ◌%◌, ◌/◌, ◌<◌, ◌≤◌, ◌&&◌, nat_le, true, false, Some, refl, sym, ap, ap₂, ◌∙◌, arith, true≢false}
+use Rattle.std.specs.Int.{w64}
 use Rattle.std.proofs.lemmas.Bool.{le-leb}
 use Rattle.std.proofs.lemmas.Int.{to_z-of_z}
 use Rattle.yr_base.specs.declared.value.Kind.TheVariants as kind
-use Rattle.yr_image.specs.declared.instruction.Arithmetic.{Arithmetic}
 use Rattle.yr_image.specs.declared.instruction.Arithmetic.TheVariants as arithmetic
-use Rattle.yr_image.specs.declared.instruction.Comparison.{Comparison}
 use Rattle.yr_image.specs.declared.instruction.Comparison.TheVariants as comparison
-use Rattle.yr_image.specs.declared.instruction.TextTest.{TextTest}
 use Rattle.yr_image.specs.declared.instruction.TextTest.TheVariants as test
-use Rattle.yr_image.specs.declared.instruction.Reader.{Reader}
 use Rattle.yr_image.specs.declared.instruction.Reader.TheVariants as reader
-use Rattle.yr_image.specs.declared.instruction.QuantifierKind.{QuantifierKind}
 use Rattle.yr_image.specs.declared.instruction.QuantifierKind.TheVariants as quantifier
-use Rattle.yr_image.specs.declared.instruction.OfForm.{OfForm}
 use Rattle.yr_image.specs.declared.instruction.OfForm.TheVariants as form
 use Rattle.yr_image.specs.declared.instruction.NamedString.TheVariants.{Known, Current}
 use Rattle.yr_image.specs.declared.instruction.Instruction.{Instruction}

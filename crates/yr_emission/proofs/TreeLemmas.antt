@@ -1,8 +1,8 @@
 -- The trees of links and items, as a walk meets them.
-use Rattle.std.proofs.Common.{◌≡◌, ℕ, zero, suc, ◌+◌, ◌-◌, ◌<◌, List, [], ◌∷◌, length, map, drop, Some, slice_get, refl, sym, ap, ◌∙◌, arith, get_or, drop-cons}
+use Rattle.std.proofs.Common.{◌≡◌, ℕ, suc, ◌+◌, ◌-◌, ◌<◌, List, [], ◌∷◌, length, map, drop, Some, slice_get, refl, sym, ap, ◌∙◌, arith, get_or, drop-cons}
 use Rattle.std.proofs.lemmas.Option.{same_Some, none-some}
 use Rattle.yr_base.specs.declared.value.Kind.{Kind}
-use Rattle.yr_rules.specs.NodeTree.{NodeTree, OneLink, link, item, links_of, items_of, link_of, tree_of}
+use Rattle.yr_rules.specs.NodeTree.{OneLink, link, item, links_of, items_of, link_of, tree_of}
 use Rattle.yr_rules.specs.Fits.{count_of}
 use Rattle.yr_rules.specs.declared.node.Node.{Node}
 use Rattle.yr_rules.specs.declared.node.NodeLink.{NodeLink}

@@ -1,5 +1,5 @@
 -- Rows that were written for a rule stand in the image, and stay so as it grows.
-use Rattle.std.proofs.Common.{◌≡◌, ℕ, zero, suc, ◌+◌, ◌≤◌, false, List, [], ◌∷◌, ◌++◌, length, take, drop, Option, Some, slice_get, refl, sym, ap, ap₂, ◌∙◌, subst, arith, append_assoc, length-append}
+use Rattle.std.proofs.Common.{◌≡◌, ℕ, ◌+◌, false, List, [], ◌∷◌, ◌++◌, length, Option, Some, slice_get, refl, sym, ap, ◌∙◌, subst, arith, append_assoc, length-append}
 use Rattle.std.specs.Option.{option_and_then}
 use Rattle.yr_image.specs.declared.rows.CodeRow.{CodeRow}
 use Rattle.yr_image.specs.declared.instruction.Instruction.{Instruction}
@@ -7,7 +7,7 @@ use Rattle.yr_image.specs.Image.{Image}
 use Rattle.yr_image.specs.Instructions.{instruction_of}
 use Rattle.yr_machine.specs.Machine.{instruction_at}
 use Rattle.yr_tables.specs.Growing.{BeginsAs, Grows}
-use Rattle.yr_tables.proofs.GrowLemmas.{program_grows, kept_at, pushed_at}
+use Rattle.yr_tables.proofs.GrowLemmas.{program_grows, kept_at}
 use Rattle.yr_emission.specs.Parts.{Part, Line, exactly, gives_text, asks}
 use Rattle.yr_emission.specs.Sayable.{LineIsSayable, AreSayable}
 use Rattle.yr_emission.specs.Standing.{HasAt, Fulfils, Says, Stands}

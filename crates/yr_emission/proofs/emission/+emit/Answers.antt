@@ -1,15 +1,15 @@
-use Rattle.std.proofs.Common.{◌≡◌, ◌≤◌, ◌<◌, ◌+◌, List, [], ◌∷◌, ◌++◌, length, map, drop, Some, slice_get, refl, sym, ap, ◌∙◌, subst, arith}
+use Rattle.std.proofs.Common.{◌≤◌, ◌<◌, ◌+◌, [], ◌∷◌, ◌++◌, length, map, drop, Some, refl, sym, ap, ◌∙◌, subst, arith}
 use Rattle.std.specs.Prelude.{OnOk, option_map}
 use Rattle.std.proofs.Math.ListN.{drop_of_length-le}
 use Rattle.std.proofs.lemmas.Option.{same_Some, slice_get-get_or}
 use Rattle.yr_pattern.specs.Tree as pattern
 use Rattle.yr_image.specs.declared.instruction.Instruction.TheVariants as i
 use Rattle.yr_rules.specs.declared.node.NodeLink.{NodeLink}
-use Rattle.yr_rules.specs.NodeTree.{Call, Found, CountIn, Chain, Matches, Of, ForOf, ForIn, Prefix, NodeAsked, Bounds, count_of, tree_of, where_of, asked_of, domain_of, bounds_of, set_of, link_of, links_of, items_of}
+use Rattle.yr_rules.specs.NodeTree.{CountIn, Prefix, Bounds, count_of, tree_of, where_of, asked_of, domain_of, bounds_of, set_of, link_of, links_of, items_of}
 use Rattle.yr_rules.specs.Rules.{external_of}
-use Rattle.yr_rules.proofs.CallerLemmas.{tree_of-Call, tree_of-Found, tree_of-Count, tree_of-Chain, tree_of-Matches, tree_of-Of, tree_of-ForOf, tree_of-ForIn, where_of-Anywhere, asked_of-All, asked_of-Any, asked_of-Nil, domain_of-Entries, bounds_of-same}
-use Rattle.yr_emission.specs.Parts.{one, pattern_part, both, looping, set_part, prefix_row, infix_answer, skip_row, value_kind, name_of, found_row, quantifier_row, form_of, numbers_of, loop_row, strings_row, part_of, place_part, asked_part, domain_part, items_part, links_part}
-use Rattle.yr_emission.specs.Prefixed.{prefixed, part_under, PutUnder}
+use Rattle.yr_rules.proofs.CallerLemmas.{tree_of-Call, tree_of-Found, tree_of-Count, tree_of-Chain, tree_of-Matches, tree_of-Of, tree_of-ForOf, tree_of-ForIn, where_of-Anywhere, domain_of-Entries, bounds_of-same}
+use Rattle.yr_emission.specs.Parts.{one, pattern_part, both, looping, set_part, infix_answer, skip_row, value_kind, name_of, found_row, quantifier_row, form_of, numbers_of, loop_row, strings_row, part_of, place_part, asked_part, domain_part, items_part, links_part}
+use Rattle.yr_emission.specs.Prefixed.{prefixed, PutUnder}
 use Rattle.yr_emission.specs.Starts.{begin_of}
 use Rattle.yr_emission.specs.declared.looping.LoopStart.TheVariants as start
 use Rattle.yr_emission.specs.Written.{SaysIf, HasRow, Written}

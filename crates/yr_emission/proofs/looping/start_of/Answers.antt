@@ -1,4 +1,4 @@
-use Rattle.std.proofs.Common.{ℕ, length, map, sym, ap, ap₂, ◌∙◌}
+use Rattle.std.proofs.Common.{ℕ, sym, ap, ap₂, ◌∙◌}
 use Rattle.yr_image.specs.declared.instruction.QuantifierKind.{QuantifierKind}
 use Rattle.yr_image.specs.declared.instruction.Instruction.{Instruction}
 use Rattle.yr_image.specs.declared.instruction.Instruction.TheVariants as i

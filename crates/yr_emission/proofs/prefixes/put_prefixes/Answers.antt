@@ -1,5 +1,4 @@
-use Rattle.std.proofs.Common.{List, [], ◌∷◌, ◌++◌, sym, ap, ◌∙◌, subst, append_assoc}
-use Rattle.yr_image.specs.declared.rows.CodeRow.{CodeRow}
+use Rattle.std.proofs.Common.{[], ◌∷◌, ◌++◌, ap, ◌∙◌, subst, append_assoc}
 use Rattle.yr_emission.specs.Parts.{one, prefix_row}
 use Rattle.yr_emission.specs.Prefixed.{part_under}
 use Rattle.yr_emission.specs.Written.{HasRow}
