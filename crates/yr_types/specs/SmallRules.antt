@@ -9,9 +9,9 @@ use Rattle.yr_syntax.specs.Declaration as declaration
 use Rattle.yr_syntax.specs.Declaration.{Declaration, StringTree, ModifierTree}
 use Rattle.yr_values.specs.Values as value
 use Rattle.yr_rules.specs.NodeTree.{NodeTree}
-use Rattle.yr_types.specs.Names.{Name}
+use Rattle.yr_numbered.specs.Names.{Name}
 use Rattle.yr_types.specs.Sources.{UnitTree, items_of}
-use Rattle.yr_types.specs.Readers.{Readers, HexRefusal, RegexRefusal}
+use Rattle.yr_nodes.specs.Readers.{Readers, HexRefusal, RegexRefusal}
 use Rattle.yr_types.specs.Given.{Given, Finding}
 use Rattle.yr_types.specs.Checked.{checked_rules}
 use Rattle.yr_types.specs.Refusals.{PlainRefusal, first_fault}
