@@ -1,2 +1,5 @@
 pub mod SectionLemmas
 pub mod LendingLemmas
+pub mod SettleLemmas
+pub mod SideLemmas
+pub mod HitLemmas

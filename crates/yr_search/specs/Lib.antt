@@ -1,2 +1,4 @@
 pub mod Programs
 pub mod Scratches
+pub mod Gathering
+pub mod Spans

@@ -1,8 +1,12 @@
 //! The search of a file for the strings of an image.
 #![tactic(auto)]
 
+mod ending;
+mod hit;
 mod lending;
+mod literal;
 mod scratch;
+mod settling;
 
 pub use lending::program;
 pub use scratch::Scratch;
