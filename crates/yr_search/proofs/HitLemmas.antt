@@ -140,6 +140,13 @@ module _ (hit : Hit) (good : IsGoodHit hit) where
       best_as hit.greatest (λ j. EndsAt hit j × (hit.at + 1 ≤ j)) (λ j. EndsAt hit j × (hit.at < j)) found
           (λ j h. (h.0, omega (arith, h.1))) (λ j h. (h.0, omega (arith, h.1))) best
 
+  -- where there is no end, there is none past the atom's end
+  pub far_none : (found : Option ℕ) → found ≡ None → IsBestOf hit.greatest (EndsAt hit) found → AreEnds hit (record { near = found; far = None })
+  far_none found none best =
+      let P : Option ℕ → Type 0 = λ o. IsBestOf hit.greatest (EndsAt hit) o in
+      let no_end : (j : ℕ) → EndsAt hit j → ⊥ = subst P none best in
+      record { near = best; far = λ empty j h. no_end j h.0 }
+
 -- the cost of a search for an end
 pub end_cost : (moves size n at before after : ℕ) → after ≤ before + size * (n + 1 - at) → size ≡ moves → after ≤ before + moves * (n + 1)
 end_cost moves size n at before after le same =

@@ -3,3 +3,5 @@ pub mod LendingLemmas
 pub mod SettleLemmas
 pub mod SideLemmas
 pub mod HitLemmas
+pub mod GrowLemmas
+pub mod StartLemmas

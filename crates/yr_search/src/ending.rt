@@ -97,9 +97,12 @@ fn program_ends<L: Ledger>(hit: &Hit<'_>, marks: &mut Marks, steps: &mut Steps<L
         + 2 * (moves_count (image_of hit.now.view.now) hit.now.row.after_place * (length hit.now.file.now + 1)) }
 {
     let near = program_end(hit, hit.at, marks, steps);
-    if near.is_none() || hit.row.atom_length != 0 {
+    if hit.row.atom_length != 0 {
         return Ends { near, far: None };
     }
+    let Some(_) = near else {
+        return Ends { near, far: None };
+    };
     let far = program_end(hit, hit.at + 1, marks, steps);
     Ends { near, far }
 }

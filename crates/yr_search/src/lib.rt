@@ -7,6 +7,7 @@ mod lending;
 mod literal;
 mod scratch;
 mod settling;
+mod starting;
 
 pub use lending::program;
 pub use scratch::Scratch;

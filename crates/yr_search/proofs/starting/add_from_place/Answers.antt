@@ -1,0 +1,8 @@
+use Rattle.yr_search.proofs.StartLemmas.{no_starts, only_one}
+use Rattle.yr_search.proofs.starting.add_from_place.Goals as goal
+
+pub returns-in_default-clause-grows : goal.returns-in_default-clause-grows
+returns-in_default-clause-grows g c = no_starts c.args.hit.now c.requires.good c.args.list.now.items c.in_default.ensures.start
+
+pub returns-clause-grows : goal.returns-clause-grows
+returns-clause-grows g c = ?
