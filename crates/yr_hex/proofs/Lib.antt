@@ -11,3 +11,4 @@ pub mod BadLemmas
 pub mod MeaningLemmas
 pub mod UniqueLemmas
 pub mod AnswerLemmas
+mod NibbleLemmas

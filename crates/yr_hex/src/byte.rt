@@ -1,7 +1,8 @@
 //! Bytes of a hex string.
 
-ghost use Rattle.std.specs.Prelude.{◌≡◌, if◌then◌else◌};
-ghost use Rattle.yr_pattern.specs.Set.{bytes_of, either, only};
+ghost use Rattle.std.specs.Prelude.{◌≡◌, ℕ, ◌+◌, ◌*◌, ◌%◌, ◌<◌, ◌==◌};
+ghost use Rattle.std.specs.Int.{bit_at};
+ghost use Rattle.yr_pattern.specs.Set.{bytes_of, HasBits};
 ghost use Rattle.yr_hex.specs.Grammar.{half};
 ghost use Rattle.yr_hex.specs.Meaning as meaning;
 ghost use Rattle.yr_hex.specs.Reading as spec;
@@ -47,15 +48,26 @@ fn agrees(digit: Option<u8>, half: u8) -> bool
     }
 }
 
-/// The set, and the byte if the given digits agree with it.
-fn with_agreeing(set: &ByteSet, high: Option<u8>, low: Option<u8>, b: u8) -> ByteSet
-    ensures { bytes_of result
-        ≡ (if meaning.halves_agree high low b then either (bytes_of set.now) (only b) else bytes_of set.now) }
+/// Eight bits, which say of the bytes from `8 * k` on whether their low digits agree.
+fn low_bits(low: Option<u8>, k: usize) -> u8
+    ensures { (i : ℕ) → i < 8 → (bit_at result i == 1) ≡ meaning.agrees low (8 * (k % 2) + i) }
 {
-    if agrees(high, b / 16) && agrees(low, b % 16) {
-        set.with(b)
+    match low {
+        None => 0xff,
+        Some(digit) if digit as usize / 8 == k % 2 => 1 << (digit % 8),
+        Some(_) => 0,
+    }
+}
+
+/// One byte of the set of the bytes whose given digits agree.
+fn agreeing_byte(high: Option<u8>, low: Option<u8>, k: usize) -> u8
+    requires { k < 32 }
+    ensures { HasBits (meaning.halves_agree high low) k result }
+{
+    if agrees(high, k as u8 / 2) {
+        low_bits(low, k)
     } else {
-        *set
+        0
     }
 }
 
@@ -63,11 +75,11 @@ fn with_agreeing(set: &ByteSet, high: Option<u8>, low: Option<u8>, b: u8) -> Byt
 fn agreeing(high: Option<u8>, low: Option<u8>) -> ByteSet
     ensures { bytes_of result ≡ meaning.agreeing high low }
 {
-    let mut set = ByteSet::none();
-    for b in 0..256u16 {
-        set = with_agreeing(&set, high, low, b as u8);
+    let mut bits = [0; 32];
+    for k in 0..32 {
+        bits[k] = agreeing_byte(high, low, k);
     }
-    set
+    ByteSet { bits }
 }
 
 fn class_of(negated: bool, high: Option<u8>, low: Option<u8>) -> ByteSet

@@ -2,15 +2,13 @@
 use Rattle.std.proofs.Common.{◌≡◌, ℕ, zero, suc, ◌+◌, ◌-◌, ◌*◌, ◌/◌, ◌%◌, ◌^◌, ◌<◌, ◌≤◌, inl, inr, max, List, length, get_or, refl, sym, ap, ◌∙◌, arith, get_or-set_other, get_or-set_same, w8}
 use Rattle.std.specs.Prelude.{Bool, true, false, not, ◌||◌, ◌&&◌, ◌==◌, nat_lt, if◌then◌else◌, bit_or, set, replicate, slice_index}
 use Rattle.std.specs.Int.{bit_at, bit_not}
-use Rattle.std.specs.Char.{to_ascii_lowercase, to_ascii_uppercase}
 use Rattle.std.proofs.Math.Path.{fun_ext}
 use Rattle.std.proofs.Math.Bool.{or-true, and-true}
 use Rattle.std.proofs.lemmas.Bool.{cases_eq, cases_lt, eq-eqb, ne_eqb, lt-ltb, le-ltb}
 use Rattle.std.proofs.lemmas.Bool.Decides.{nat_tests}
 use Rattle.std.proofs.lemmas.List.{get_or_past}
 use Rattle.std.proofs.lemmas.Nat.Bits.{bit_at_or, bit_at-lt, bit_at-zero, bit_at_not, bit_at_set_same, bit_at_set_other}
-use Rattle.yr_base.specs.Bytes.{lowered}
-use Rattle.yr_pattern.specs.Set.{has_bit, only, either, all_but, in_either_case, raised}
+use Rattle.yr_pattern.specs.Set.{has_bit, only, either, all_but}
 
 -- one of two bits is 1
 max_is_one : (a b : ℕ) → a < 2 → b < 2 → (max a b == 1) ≡ (a == 1 || b == 1)
@@ -117,18 +115,6 @@ has_bit-complement new old n o all = fun_ext (λ x. elim (cases_lt x 256) [ inl 
     past : (x : ℕ) → 256 ≤ x → has_bit new x ≡ all_but (has_bit old) x
     past x h = has_bit-past new x (omega arith) ∙ sym (ap (λ t. t && not (has_bit old x)) (le-ltb x 256 h))
 
-pub lowercase-lowered : (b : ℕ) → to_ascii_lowercase b ≡ lowered b
-lowercase-lowered b = grind (arith, nat_tests)
-
-pub uppercase-raised : (b : ℕ) → to_ascii_uppercase b ≡ raised b
-uppercase-raised b = grind (arith, nat_tests)
-
-lowered-past : (b : ℕ) → 256 ≤ b → lowered b ≡ b
-lowered-past b h = grind (arith, nat_tests)
-
-raised-past : (b : ℕ) → 256 ≤ b → raised b ≡ b
-raised-past b h = grind (arith, nat_tests)
-
 and-false : (b : Bool) → (b && false) ≡ false
 and-false true = refl
 and-false false = refl
@@ -155,19 +141,3 @@ fold_more old new whole b so_far step x =
     beside n =
         ap (λ t. (nat_lt x b && whole x) || (whole b && t)) (ne_eqb x b n) ∙ ap (λ t. (nat_lt x b && whole x) || t) (and-false (whole b))
         ∙ or-false (nat_lt x b && whole x) ∙ ap (λ t. t && whole x) (still_below x b n)
-
-pub fold_all : (bits : List ℕ) (new : ℕ → Bool) → length bits ≡ 32
-    → ((x : ℕ) → new x ≡ (nat_lt x 256 && in_either_case (has_bit bits) x)) → new ≡ in_either_case (has_bit bits)
-fold_all bits new n all = fun_ext (λ x. elim (cases_lt x 256) [ inl h ↦ within x h | inr h ↦ past x h ])
-  where
-    within : (x : ℕ) → x < 256 → new x ≡ in_either_case (has_bit bits) x
-    within x h = all x ∙ ap (λ t. t && in_either_case (has_bit bits) x) (lt-ltb x 256 h)
-
-    nothing : (x : ℕ) → 256 ≤ x → in_either_case (has_bit bits) x ≡ false
-    nothing x h =
-        let none : has_bit bits x ≡ false = has_bit-past bits x (omega arith) in
-        ap (λ y. has_bit bits y || has_bit bits (raised x)) (lowered-past x h) ∙ ap (λ t. t || has_bit bits (raised x)) none
-        ∙ ap (has_bit bits) (raised-past x h) ∙ none
-
-    past : (x : ℕ) → 256 ≤ x → new x ≡ in_either_case (has_bit bits) x
-    past x h = all x ∙ ap (λ t. t && in_either_case (has_bit bits) x) (le-ltb x 256 h) ∙ sym (nothing x h)

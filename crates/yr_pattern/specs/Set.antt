@@ -1,5 +1,5 @@
 -- Which bytes a set has. A class of bytes is a test of numbers, as in `Bytes`.
-use Rattle.std.specs.Prelude.{◌≡◌, ℕ, ◌/◌, ◌%◌, Bool, true, false, not, ◌||◌, ◌&&◌, ◌==◌, ◌-◌, if◌then◌else◌, nat_lt, slice_index, List}
+use Rattle.std.specs.Prelude.{◌≡◌, ℕ, ◌+◌, ◌*◌, ◌/◌, ◌%◌, ◌<◌, Bool, true, false, not, ◌||◌, ◌&&◌, ◌==◌, ◌-◌, if◌then◌else◌, nat_lt, slice_index, List}
 use Rattle.std.specs.Int.{bit_at}
 use Rattle.yr_base.specs.Bytes.{is_lower, lowered}
 use Rattle.yr_pattern.specs.declared.byte_set.ByteSet.{ByteSet}
@@ -7,6 +7,10 @@ use Rattle.yr_pattern.specs.declared.byte_set.ByteSet.{ByteSet}
 -- byte b is bit b mod 8 of byte b div 8
 abbrev pub has_bit : List ℕ → ℕ → Bool
 has_bit bits b = bit_at (slice_index bits (b / 8)) (b % 8) == 1
+
+-- a byte of a set that has this class, the one at a place: each of its bits says whether the class has its number
+abbrev pub HasBits : (ℕ → Bool) → ℕ → ℕ → Type 0
+HasBits class place bits = (i : ℕ) → i < 8 → (bit_at bits i == 1) ≡ class (8 * place + i)
 
 -- the class of the bytes that a set has
 abbrev pub bytes_of : ByteSet → ℕ → Bool

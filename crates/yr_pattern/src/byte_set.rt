@@ -1,7 +1,10 @@
 //! Sets of bytes.
 
-ghost use Rattle.std.specs.Prelude.{◌≡◌, if◌then◌else◌};
-ghost use Rattle.yr_pattern.specs.Set.{no_byte, only, either, all_but, in_either_case};
+ghost use Rattle.std.specs.Prelude.{◌≡◌, ◌<◌};
+ghost use Rattle.yr_pattern.specs.Set.{no_byte, only, either, all_but, in_either_case, HasBits};
+
+/// The capital letters among the bytes 64 to 95. The small ones stand 32 bytes after them.
+const CAPITALS: [u8; 4] = [0xfe, 0xff, 0xff, 0x07];
 
 /// A set of bytes: byte `b` is bit `b % 8` of `bits[b / 8]`.
 #[derive(Clone, Copy, Debug, PartialEq, Eq)]
@@ -68,22 +71,23 @@ impl ByteSet {
     pub fn fold(&self) -> ByteSet
         ensures { bytes_of result ≡ in_either_case (bytes_of self.now) }
     {
-        let mut folded = ByteSet::none();
-        for b in 0..=255u8 {
-            folded = folded.with_letter_of(self, b);
+        let mut bits = [0; 32];
+        for k in 0..32 {
+            bits[k] = self.folded_byte(k);
         }
-        folded
+        ByteSet { bits }
     }
 
-    /// The set, and a byte that the other set has in either case.
-    fn with_letter_of(&self, other: &ByteSet, b: u8) -> ByteSet
-        ensures { bytes_of result
-            ≡ (if in_either_case (bytes_of other.now) b then either (bytes_of self.now) (only b) else bytes_of self.now) }
+    /// One byte of the set in either case.
+    fn folded_byte(&self, k: usize) -> u8
+        requires { k < 32 }
+        ensures { HasBits (in_either_case (bytes_of self.now)) k result }
     {
-        if other.contains(b.to_ascii_lowercase()) || other.contains(b.to_ascii_uppercase()) {
-            self.with(b)
-        } else {
-            *self
+        let same = self.bits[k];
+        match k {
+            8..=11 => same | self.bits[k + 4] & CAPITALS[k - 8],
+            12..=15 => same | self.bits[k - 4] & CAPITALS[k - 12],
+            _ => same,
         }
     }
 }

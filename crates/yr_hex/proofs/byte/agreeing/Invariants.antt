@@ -1,8 +1,10 @@
-use Rattle.std.proofs.Common.{◌≡◌, ℕ}
-use Rattle.std.specs.Prelude.{◌&&◌, nat_lt}
-use Rattle.yr_pattern.specs.Set.{bytes_of}
+use Rattle.std.proofs.Common.{◌≡◌, ℕ, ◌<◌, length, get_or}
+use Rattle.yr_pattern.specs.Set.{HasBits}
 use Rattle.yr_hex.specs.Meaning.{halves_agree}
 use Rattle.yr_hex.proofs.byte.agreeing.Given as goal
 
-abbrev pub invariant-loop-b : goal.invariant-loop-b
-invariant-loop-b l = (x : ℕ) → bytes_of l.set x ≡ (nat_lt x l.b && halves_agree l.high l.low x)
+abbrev pub invariant-loop-k : goal.invariant-loop-k
+invariant-loop-k l = record {
+  size : length l.bits ≡ 32;
+  agrees : (q : ℕ) → q < l.k → HasBits (halves_agree l.high l.low) q (get_or l.bits q 0);
+}

@@ -1,30 +1,21 @@
-use Rattle.std.proofs.Common.{◌≡◌, ◌+◌, ap, sym, ◌∙◌, arith, rules}
-use Rattle.std.specs.Prelude.{◌&&◌, nat_lt}
-use Rattle.std.proofs.lemmas.Bool.{le-ltb}
+use Rattle.std.proofs.Common.{◌≢◌, ◌<◌, length, arith, get_or-set_other, get_or-set_same, below_more, length-set}
 use Rattle.yr_pattern.specs.Set.{bytes_of, in_either_case}
-use Rattle.yr_pattern.proofs.SetLemmas.{fold_more, fold_all}
+use Rattle.yr_pattern.proofs.ClassLemmas.{has_bit-from_bytes}
+use Rattle.yr_pattern.proofs.CaseLemmas.{nothing_past}
 use Rattle.yr_pattern.proofs.byte_set.ByteSet.fold.Goals as goal
 
-pub loop-b-init : goal.loop-b-init
-loop-b-init c = record {
-  whole = search rules;
-  so_far = λ x. ap (λ f. f x) c.none-folded.ensures ∙ sym (ap (λ t. t && in_either_case (bytes_of c.args.self.now) x) (le-ltb x 0 (omega arith)));
-}
-
-pub loop-b-preserved : goal.loop-b-preserved
-loop-b-preserved c =
-    let i = c.loop-b.invariant in
+pub loop-k-preserved : goal.loop-k-preserved
+loop-k-preserved c =
+    let i = c.loop-k.invariant in
+    let lt : c.loop-k.k < length c.loop-k.bits = omega (arith, i.lengths.0, c.loop-k-test.true) in
     record {
-      whole = i.whole;
-      so_far = fold_more (bytes_of c.loop-b.folded) (bytes_of c.with_letter_of-folded.result) (in_either_case (bytes_of c.args.self.now)) c.loop-b.b
-          i.so_far c.with_letter_of-folded.ensures;
+      lengths = (simp length-set i.lengths.0, i.lengths.1);
+      folded = below_more _ _
+          (λ q h. let ne : q ≢ c.loop-k.k = omega arith in rw get_or-set_other (i.folded q h))
+          (rw get_or-set_same c.folded_byte.ensures);
     }
 
-pub returns-2 : goal.returns-2
-returns-2 c =
-    let i = c.loop-b.invariant in
-    let last : c.loop-b.b + 1 ≡ 256 = omega arith in
-    fold_all c.args.self.now.bits (bytes_of c.with_letter_of-folded.result) i.whole
-    (λ x. fold_more (bytes_of c.loop-b.folded) (bytes_of c.with_letter_of-folded.result) (in_either_case (bytes_of c.args.self.now)) c.loop-b.b
-    i.so_far c.with_letter_of-folded.ensures x
-    ∙ ap (λ n. nat_lt x n && in_either_case (bytes_of c.args.self.now) x) last)
+pub returns : goal.returns
+returns c =
+    let i = c.loop-k.invariant in
+    has_bit-from_bytes c.loop-k.bits (in_either_case (bytes_of c.args.self.now)) i.lengths.0 (λ q h. i.folded q (omega arith)) (nothing_past c.args.self.now.bits i.lengths.1)
