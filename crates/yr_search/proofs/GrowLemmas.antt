@@ -1,5 +1,5 @@
 -- How lists of matches grow.
-use Rattle.std.proofs.Common.{◌≡◌, ℕ, ◌+◌, ◌-◌, ◌≤◌, ◌⊎◌, inl, inr, Bool, List, [], ◌∷◌, ◌++◌, Contains, append_assoc, append-nil, refl, sym, ap, ◌∙◌, subst, arith}
+use Rattle.std.proofs.Common.{◌≡◌, ℕ, ◌+◌, ◌-◌, ◌≤◌, ◌⊎◌, inl, inr, Bool, List, [], ◌∷◌, ◌++◌, Contains, append_assoc, append-nil, Result, Ok, Err, OnOk, refl, sym, ap, ◌∙◌, subst, arith}
 use Rattle.std.proofs.lemmas.List.Elements.{Contains-append_left, Contains-append_right, Contains-append_cases}
 use Rattle.yr_answer.specs.MatchList.{Match}
 use Rattle.yr_search.specs.Gathering.{DoesFor, Grows}
@@ -58,3 +58,8 @@ module _ (greatest : Bool) where
     sound = λ i size at. into i (i + size) (g.sound i size at);
     complete = λ i j s. g.complete i j (back i j s);
   }
+
+-- what follows where there is a value
+pub on_ok : {T E : Type 0} {P Q : Type 0} → (r : Result T E) → (P → Q) → OnOk r P → OnOk r Q
+on_ok (Ok v) into h = into h
+on_ok (Err e) into h = tt

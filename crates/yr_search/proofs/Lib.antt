@@ -5,3 +5,5 @@ pub mod SideLemmas
 pub mod HitLemmas
 pub mod GrowLemmas
 pub mod StartLemmas
+pub mod TakeLemmas
+pub mod NodeLemmas

@@ -189,3 +189,16 @@ paid_last moves all old new before now after paid le cost =
     let product : moves * ((old - new) + new) ≡ moves * (old - new) + moves * new = mul-add moves (old - new) new in
     let whole : moves * ((old - new) + new) ≡ moves * old = ap (λ k. moves * k) parts in
     omega (arith, paid, cost, product, whole)
+
+pub paid_start : (moves all place before : ℕ) → place ≡ all → Paid moves all place before before
+paid_start moves all place before is = let same : moves * place ≡ moves * all = ap (λ k. moves * k) is in omega (arith, is, same)
+
+-- a walk that goes on finds the same starts
+pub finds_keep : (hit : Hit) (walk : engine.Walk) (place : ℕ) (new : engine.Walk) → new ≡ record walk { place = place } → Finds hit walk → Finds hit new
+finds_keep hit walk place new is finds =
+    let F : engine.Walk → Type 0 = λ w. (i : ℕ) → (StartsAt hit i) ↔ (AcceptsBackwards w.moves w.sets w.file i w.at) in
+    record { same = subst F (sym is) finds.same }
+
+pub step_cost : (size moves old new start now after : ℕ) → size ≡ moves → new ≡ start → after ≤ now + size * (old - new) → after ≤ now + moves * (old - start)
+step_cost size moves old new start now after same at cost =
+    subst (λ s. after ≤ now + moves * (old - s)) at (subst (λ m. after ≤ now + m * (old - new)) same cost)

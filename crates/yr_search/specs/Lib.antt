@@ -2,3 +2,5 @@ pub mod Programs
 pub mod Scratches
 pub mod Gathering
 pub mod Spans
+pub mod Taking
+pub mod Uppers

@@ -1,5 +1,6 @@
 //! A hit of a split in a file, and its ends.
 
+use yr_automaton::AutomatonRows;
 use yr_base::Border;
 use yr_image::{ImageView, SplitRow};
 
@@ -19,4 +20,12 @@ pub(crate) struct Hit<'a> {
 pub(crate) struct Ends {
     pub(crate) near: Option<u32>,
     pub(crate) far: Option<u32>,
+}
+
+/// What a search reads: an image, with the rows of its automaton, and a file.
+#[derive(Clone, Copy)]
+pub(crate) struct Scene<'a> {
+    pub(crate) view: &'a ImageView<'a>,
+    pub(crate) automaton: AutomatonRows<'a>,
+    pub(crate) file: &'a [u8],
 }

@@ -5,9 +5,11 @@ mod ending;
 mod hit;
 mod lending;
 mod literal;
+mod node;
 mod scratch;
 mod settling;
 mod starting;
+mod taking;
 
 pub use lending::program;
 pub use scratch::Scratch;
