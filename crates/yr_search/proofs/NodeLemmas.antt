@@ -6,6 +6,7 @@ use Rattle.std.specs.List.{sum}
 use Rattle.std.proofs.Math.Seq.{drop-cons}
 use Rattle.std.proofs.lemmas.List.{length-drop, length-take-le, length-append, nil_from_length}
 use Rattle.std.proofs.lemmas.Option.{slice_get-get_or, get_or_from_slice_get, slice_get_within}
+use Rattle.std.proofs.lemmas.Bool.{cases_lt}
 use Rattle.std.proofs.lemmas.Bool.Decides.{nat_tests, Decides-eqb}
 use Rattle.yr_rows.specs.declared.nodes.NodeRow.{NodeRow}
 use Rattle.yr_rows.specs.declared.nodes.EdgeRow.{EdgeRow}
@@ -153,3 +154,106 @@ module _ (image : Image) (falls : (n : ℕ) → n < length image.nodes → n ≢
 pub costs_append : (f : ℕ → ℕ) (xs ys : List ℕ) → costs f (xs ++ ys) ≡ costs f xs + costs f ys
 costs_append f [] ys = omega arith
 costs_append f (x ∷ xs) ys = let rest = costs_append f xs ys in omega (arith, rest)
+
+-- ---- up the links of an image
+
+module _ (bytes : List ℕ) (wellformed : IsWellformed bytes) where
+  pub links_fall : (n : ℕ) → n < length (image_in bytes).nodes → n ≢ 0 → link_of (image_in bytes).nodes n < n
+  links_fall n lt some =
+      let row = there (image_in bytes).nodes n lt in
+      let falls = link_falls bytes wellformed n row.0 row.1 some in
+      omega (arith, falls.0, link_is bytes wellformed n row.0 row.1)
+
+  pub upper_at : (n : ℕ) (row : NodeRow) → slice_get (image_in bytes).nodes n ≡ Some row → n ≢ 0
+      → upper (image_in bytes) n ≡ own (image_in bytes) n ++ upper (image_in bytes) row.failure
+  upper_at n row at some =
+      upper_next (image_in bytes) links_fall n (slice_get_within (image_in bytes).nodes n row at) some
+      ∙ ap (λ m. own (image_in bytes) n ++ upper (image_in bytes) m) (link_is bytes wellformed n row at)
+
+  pub next_upper : (n : ℕ) → n < length (image_in bytes).nodes → n ≢ 0
+      → (row : NodeRow) × ((slice_get (image_in bytes).nodes n ≡ Some row) × (upper (image_in bytes) n ≡ own (image_in bytes) n ++ upper (image_in bytes) row.failure))
+  next_upper n lt some = let row = there (image_in bytes).nodes n lt in (row.0, (row.1, upper_at n row.0 row.1 some))
+
+-- ---- all outputs at a node are among the rows, each once
+
+take_plus : {X : Type 0} (a b : ℕ) (xs : List X) → take (a + b) xs ≡ take a xs ++ take b (drop a xs)
+take_plus zero b xs = let same : 0 + b ≡ b = omega arith in ap (λ n. take n xs) same
+take_plus (suc a) b [] = let same : suc a + b ≡ suc (a + b) = omega arith in ap (λ n. take n []) same ∙ sym (take_nil b)
+  where
+    take_nil : {X : Type 0} (n : ℕ) → take {A = X} n [] ≡ []
+    take_nil zero = refl
+    take_nil (suc n) = refl
+take_plus (suc a) b (x ∷ xs) =
+    let same : suc a + b ≡ suc (a + b) = omega arith in
+    ap (λ n. take n (x ∷ xs)) same ∙ ap (λ l. x ∷ l) (take_plus a b xs)
+
+costs_take : (f : ℕ → ℕ) (a b : ℕ) (xs : List ℕ) → a ≤ b → costs f (take a xs) ≤ costs f (take b xs)
+costs_take f a b xs le =
+    let parts : a + (b - a) ≡ b = omega (arith, le) in
+    let whole = ap (λ n. costs f (take n xs)) (sym parts) ∙ ap (costs f) (take_plus a (b - a) xs) ∙ costs_append f (take a xs) (take (b - a) (drop a xs)) in
+    omega (arith, whole)
+
+costs_front : (f : ℕ → ℕ) (a : ℕ) (xs : List ℕ) → costs f (take a xs) ≤ costs f xs
+costs_front f zero xs = omega arith
+costs_front f (suc a) [] = omega arith
+costs_front f (suc a) (x ∷ xs) = let rest = costs_front f a xs in omega (arith, rest)
+
+module _ (bytes : List ℕ) (wellformed : IsWellformed bytes) (f : ℕ → ℕ) where
+  end_is : (n : ℕ) (row : NodeRow) → slice_get (image_in bytes).nodes n ≡ Some row → (next : NodeRow) → slice_get (image_in bytes).nodes (suc n) ≡ Some next
+      → next.first_output ≡ outputs_end row
+  end_is n row at next there =
+      (node_is bytes wellformed (suc n) next there).wellformed.outputs_follow ∙ ap (λ o. option_map_or outputs_end o 0) at
+
+  -- the outputs of a node end where those of a later one begin, or before
+  ends_rise : (n m : ℕ) (row up : NodeRow) → slice_get (image_in bytes).nodes n ≡ Some row → m < n → slice_get (image_in bytes).nodes m ≡ Some up
+      → outputs_end up ≤ row.first_output
+  ends_rise zero m row up at lt is = absurd (omega (arith, lt))
+  ends_rise (suc n) m row up at lt is =
+      let before = there (image_in bytes).nodes n (omega (arith, slice_get_within (image_in bytes).nodes (suc n) row at)) in
+      let follows = end_is n before.0 before.1 row at in
+      elim (cases_lt m n) [
+        | inl less ↦ let rest = ends_rise n m before.0 up before.1 less is in omega (arith, rest, follows)
+        | inr le ↦
+            let here : m ≡ n = omega (arith, le, lt) in
+            let same : Some up ≡ Some before.0 = sym is ∙ ap (slice_get (image_in bytes).nodes) here ∙ before.1 in
+            let one : up ≡ before.0 = cc in
+            let ends = ap outputs_end one in
+            omega (arith, follows, ends)
+      ]
+
+  own_cost : (n : ℕ) (row : NodeRow) → slice_get (image_in bytes).nodes n ≡ Some row
+      → costs f (take row.first_output (image_in bytes).outputs) + costs f (own (image_in bytes) n) ≡ costs f (take (outputs_end row) (image_in bytes).outputs)
+  own_cost n row at =
+      let all = (image_in bytes).outputs in
+      let sum = costs_append f (take row.first_output all) (take row.outputs (drop row.first_output all)) in
+      let cut = ap (costs f) (take_plus row.first_output row.outputs all) in
+      let mine = ap (costs f) (own_is bytes wellformed n row at) in
+      omega (arith, sum, cut, mine)
+
+  chain_cost : (bound n : ℕ) (row : NodeRow) → n ≤ bound → slice_get (image_in bytes).nodes n ≡ Some row
+      → costs f (upper (image_in bytes) n) + costs f (own (image_in bytes) 0) ≤ costs f (take (outputs_end row) (image_in bytes).outputs)
+  chain_cost bound zero row le at = let mine = own_cost 0 row at in omega (arith, mine)
+  chain_cost zero (suc n) row le at = absurd (omega (arith, le))
+  chain_cost (suc bound) (suc n) row le at =
+      let other : suc n ≢ 0 = omega arith in
+      let falls = link_falls bytes wellformed (suc n) row at other in
+      let up = there (image_in bytes).nodes row.failure falls.1 in
+      let rest = chain_cost bound row.failure up.0 (omega (arith, falls.0, le)) up.1 in
+      let ends = ends_rise (suc n) row.failure row up.0 at falls.0 up.1 in
+      let more = costs_take f (outputs_end up.0) row.first_output (image_in bytes).outputs ends in
+      let mine = own_cost (suc n) row at in
+      let cut = ap (costs f) (upper_at bytes wellformed (suc n) row at other) ∙ costs_append f (own (image_in bytes) (suc n)) (upper (image_in bytes) row.failure) in
+      omega (arith, rest, more, mine, cut)
+
+  -- what the outputs at a node cost is no more than what all rows do
+  pub outputs_cost : (n : ℕ) → n < length (image_in bytes).nodes
+      → costs f (upper (image_in bytes) n) + costs f (own (image_in bytes) 0) ≤ costs f (image_in bytes).outputs
+  outputs_cost n lt =
+      let row = there (image_in bytes).nodes n lt in
+      let chain = chain_cost n n row.0 (omega arith) row.1 in
+      let front = costs_front f (outputs_end row.0) (image_in bytes).outputs in
+      omega (arith, chain, front)
+
+pub costs_count : (xs : List ℕ) → costs (λ x. 1) xs ≡ length xs
+costs_count [] = refl
+costs_count (x ∷ xs) = let rest = costs_count xs in omega (arith, rest)

@@ -9,11 +9,11 @@ use Rattle.yr_search.proofs.node.take_own.Given as goal
 
 abbrev pub invariant-loop-k : goal.invariant-loop-k
 invariant-loop-k g l = record {
-  takes : (new : List (List Match)) → TakesAll (image_of l.scene.view) l.scene.file.now l.at (drop l.k (own (image_of l.scene.view) l.node)) (items_of l.lists.items) new
-      → TakesAll (image_of l.scene.view) l.scene.file.now l.at (own (image_of l.scene.view) l.node) (items_of l.fn.lists.items) new;
+  takes : (new : List (List Match)) → TakesAll (image_of l.scene.view.now) l.scene.file.now l.at (drop l.k (own (image_of l.scene.view.now) l.node)) (items_of l.lists.items) new
+      → TakesAll (image_of l.scene.view.now) l.scene.file.now l.at (own (image_of l.scene.view.now) l.node) (items_of l.fn.lists.items) new;
   room : l.marks.room ≡ l.fn.marks.room;
   lists : length l.lists.items ≡ length l.fn.lists.items;
   least : l.initial.steps + l.k ≤ l.steps;
-  most : l.steps + costs (output_cost (image_of l.scene.view) (length l.scene.file.now)) (drop l.k (own (image_of l.scene.view) l.node))
-      ≤ l.initial.steps + costs (output_cost (image_of l.scene.view) (length l.scene.file.now)) (own (image_of l.scene.view) l.node);
+  most : l.steps + costs (output_cost (image_of l.scene.view.now) (length l.scene.file.now)) (drop l.k (own (image_of l.scene.view.now) l.node))
+      ≤ l.initial.steps + costs (output_cost (image_of l.scene.view.now) (length l.scene.file.now)) (own (image_of l.scene.view.now) l.node);
 }
