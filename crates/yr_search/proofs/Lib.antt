@@ -7,3 +7,5 @@ pub mod GrowLemmas
 pub mod StartLemmas
 pub mod TakeLemmas
 pub mod NodeLemmas
+pub mod WalkLemmas
+pub mod SceneLemmas

@@ -4,3 +4,4 @@ pub mod Gathering
 pub mod Spans
 pub mod Taking
 pub mod Uppers
+pub mod Walked

@@ -10,6 +10,7 @@ mod scratch;
 mod settling;
 mod starting;
 mod taking;
+mod walking;
 
 pub use lending::program;
 pub use scratch::Scratch;
