@@ -9,3 +9,4 @@ pub mod TakeLemmas
 pub mod NodeLemmas
 pub mod WalkLemmas
 pub mod SceneLemmas
+pub mod GatherLemmas

@@ -5,3 +5,4 @@ pub mod Spans
 pub mod Taking
 pub mod Uppers
 pub mod Walked
+pub mod FoundIn
