@@ -18,7 +18,7 @@ use Rattle.yr_search.specs.Walked.{repeated}
 use Rattle.yr_search.proofs.SettleLemmas.{contains_first, contains_later, contains_none, contains_cases}
 
 -- an element of a list in which one was replaced
-set_cases : {X : Type 0} (xs : List X) (k : ℕ) (v : X) (j : ℕ) (y : X) → slice_get (set xs k v) j ≡ Some y
+pub set_cases : {X : Type 0} (xs : List X) (k : ℕ) (v : X) (j : ℕ) (y : X) → slice_get (set xs k v) j ≡ Some y
     → ((j ≡ k) × (v ≡ y)) ⊎ ((j ≢ k) × (slice_get xs j ≡ Some y))
 set_cases [] k v j y e = cc
 set_cases (x ∷ xs) zero v zero y e = inl (refl, cc)
@@ -29,7 +29,7 @@ set_cases (x ∷ xs) (suc k) v (suc j) y e = elim (set_cases xs k v j y e) [
   | inr h ↦ inr (omega (arith, h.0), h.1)
 ]
 
-set_length : {X : Type 0} (xs : List X) (k : ℕ) (v : X) → length (set xs k v) ≡ length xs
+pub set_length : {X : Type 0} (xs : List X) (k : ℕ) (v : X) → length (set xs k v) ≡ length xs
 set_length [] k v = refl
 set_length (x ∷ xs) zero v = refl
 set_length (x ∷ xs) (suc k) v = ap suc (set_length xs k v)
@@ -53,7 +53,7 @@ module _ (image : Image) (file : List ℕ) where
   counted_as : (H K : ℕ → ℕ → Type 0) (string i j : ℕ) → ((e s : ℕ) → H e s → K e s) → CountedBy H string i j → CountedBy K string i j
   counted_as H K string i j into c = (c.0, c.1, c.2, into c.0 c.1 c.3, c.4, c.5, c.6)
 
-  gathered_as : (H K : ℕ → ℕ → Type 0) (lists : List (List Match)) → ((e s : ℕ) → H e s → K e s) → ((e s : ℕ) → K e s → H e s) → IsGathered H lists → IsGathered K lists
+  pub gathered_as : (H K : ℕ → ℕ → Type 0) (lists : List (List Match)) → ((e s : ℕ) → H e s → K e s) → ((e s : ℕ) → K e s → H e s) → IsGathered H lists → IsGathered K lists
   gathered_as H K lists into back g = record {
     count = g.count;
     each = λ k string list is at.

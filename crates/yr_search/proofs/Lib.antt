@@ -10,3 +10,4 @@ pub mod NodeLemmas
 pub mod WalkLemmas
 pub mod SceneLemmas
 pub mod GatherLemmas
+pub mod FinalLemmas

@@ -2,11 +2,13 @@
 #![tactic(auto)]
 
 mod ending;
+mod gathering;
 mod hit;
 mod lending;
 mod literal;
 mod node;
 mod scratch;
+mod searching;
 mod settling;
 mod starting;
 mod taking;
@@ -14,3 +16,4 @@ mod walking;
 
 pub use lending::program;
 pub use scratch::Scratch;
+pub use searching::search;

@@ -57,6 +57,7 @@ pub(crate) fn walk<L: Ledger>(
     requires lists { length lists.old.items ≡ length (image_of scene.now.view.now).strings }
     ensures walked { IfOk result (λ count. Walked (image_of scene.now.view.now) scene.now.file.now (length scene.now.file.now)
         (items_of lists.old.items) (items_of lists.new.items) count) }
+    ensures small { IfOk result (λ count. count ≤ length scene.now.file.now * 1073741824) }
     ensures room { marks.new.room ≡ marks.old.room }
     ensures lists { length lists.new.items ≡ length lists.old.items }
     ensures least_cost { IfOk result (λ count. steps.old + count ≤ steps.new) }

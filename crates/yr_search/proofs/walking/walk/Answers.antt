@@ -113,3 +113,6 @@ returns-clause-most_cost g c =
     let a = ap (λ k. k * costs (output_cost image n) (own image 0)) last in
     let b = ap (λ k. k * front_cost image n) last in
     omega (arith, c.loop-at.invariant.most, a, b, last)
+
+pub returns-clause-small : goal.returns-clause-small
+returns-clause-small g c = omega (arith, c.loop-at.invariant.small, c.loop-at-test.false, c.loop-at.auto.at-end)
