@@ -1,5 +1,5 @@
 -- The hits of a file, and the match lists that they give.
-use Rattle.std.proofs.Common.{◌≡◌, ◌≢◌, ℕ, zero, suc, ◌+◌, ◌-◌, ◌*◌, ◌<◌, ◌≤◌, ◌^◌, ◌⊎◌, inl, inr, ◌↔◌, Bool, List, [], ◌∷◌, ◌++◌, length, get_or, map, All, Contains, Option, Some, None, option_map, refl, sym, ap, ◌∙◌, subst, arith, length-append}
+use Rattle.std.proofs.Common.{◌≡◌, ◌≢◌, ℕ, zero, suc, ◌+◌, ◌-◌, ◌*◌, ◌<◌, ◌≤◌, ◌^◌, ◌⊎◌, inl, inr, ◌↔◌, Bool, List, [], ◌∷◌, ◌++◌, length, get_or, map, All, Contains, Option, Some, None, option_map, unwrap_or, refl, sym, ap, ◌∙◌, subst, arith, length-append}
 use Rattle.std.specs.Prelude.{slice_get, Vec}
 use Rattle.std.specs.declared.alloc.Global.{Global}
 use Rattle.std.specs.List.{sum}
@@ -17,12 +17,13 @@ use Rattle.yr_image.specs.Reading.{image_in}
 use Rattle.yr_machine.specs.Hits.{AreHits, IsHit, hit_count}
 use Rattle.yr_machine.specs.ImageMatches.{IsCounted, AreImageMatches, is_greatest}
 use Rattle.yr_machine.specs.Wellformed.{IsWellformed}
+use Rattle.yr_machine.specs.Budget.{search_budget, output_cost}
 use Rattle.yr_matches.specs.Found.{Found, IsReadable, items_of}
 use Rattle.yr_search.specs.Gathering.{IsSettled, AreShort}
 use Rattle.yr_search.specs.Spans.{IsSpan}
 use Rattle.yr_search.specs.Taking.{TakesFronts}
 use Rattle.yr_search.specs.Uppers.{own, upper, costs}
-use Rattle.yr_search.specs.Walked.{AreFronts, IsUpperAfter, Walked, total, repeated, root_fronts}
+use Rattle.yr_search.specs.Walked.{AreFronts, IsUpperAfter, front_cost, Walked, total, repeated, root_fronts}
 use Rattle.yr_search.specs.FoundIn.{IsFoundIn, AreTaken, AreSettled, AreAllShort}
 use Rattle.yr_search.proofs.SettleLemmas.{contains_none, rises_weaken}
 use Rattle.yr_search.proofs.HitLemmas.{there}
@@ -83,7 +84,6 @@ hit_of_front root (f ∷ fs) zero u h = let same : f ≡ u = cc in ap (λ l. Som
 hit_of_front root (f ∷ fs) (suc e) u h = hit_of_front root fs e u h
 
 module _ (bytes : List ℕ) (wellformed : IsWellformed bytes) (file : List ℕ) (fronts : List (List ℕ)) (are : AreFronts (image_in bytes) file (length file) fronts) where
-
   pub hits_are : AreHits (image_in bytes) file (all_hits (own (image_in bytes) 0) fronts)
   hits_are = record {
     fronts = hits_length (own (image_in bytes) 0) fronts ∙ are.count;
@@ -146,9 +146,15 @@ module _ (image : Image) (file : List ℕ) (hits : List (List ℕ)) where
   }
 
   counted_from : (H : ℕ → ℕ → Type 0) (string i j : ℕ) → ((e s : ℕ) → IsHit hits e s → H e s) → IsCounted image file hits string i j → CountedBy image file H string i j
-  counted_from H string i j back c =
-      (c.e, c.split, c.row, back c.e c.split c.hit, c.is_row, c.is_of,
-       record { spans = c.spans; longer = c.longer; border = c.border; border_is = c.border_is; begins = c.begins; ends = c.ends })
+  counted_from H string i j back c = (
+    c.e,
+    c.split,
+    c.row,
+    back c.e c.split c.hit,
+    c.is_row,
+    c.is_of,
+    record { spans = c.spans; longer = c.longer; border = c.border; border_is = c.border_is; begins = c.begins; ends = c.ends },
+  )
 
   pub holds_counted : (H : ℕ → ℕ → Type 0) (string : ℕ) (greatest : Bool) (list : List Match) → ((e s : ℕ) → H e s → IsHit hits e s) → ((e s : ℕ) → IsHit hits e s → H e s)
       → Holds (CountedBy image file H string) greatest list → Holds (IsCounted image file hits string) greatest list
@@ -220,8 +226,8 @@ module _ (bytes : List ℕ) (wellformed : IsWellformed bytes) (file : List ℕ) 
       → Holds (IsCounted (image_in bytes) file all k) (is_greatest (image_in bytes) file string) list
   holds_at k string list is at =
       holds_counted (image_in bytes) file all (Taken bytes wellformed file taken.walked.fronts taken.walked.are) k (is_greatest (image_in bytes) file string) list
-          (taken_hit bytes wellformed file taken.walked.fronts taken.walked.are) (hit_taken bytes wellformed file taken.walked.fronts taken.walked.are)
-          (gathered.each k string list is at)
+      (taken_hit bytes wellformed file taken.walked.fronts taken.walked.are) (hit_taken bytes wellformed file taken.walked.fronts taken.walked.are)
+      (gathered.each k string list is at)
 
   lists_length : length lists ≡ length (image_in bytes).strings
   lists_length = sym (items_length lists) ∙ gathered.count
@@ -251,7 +257,7 @@ module _ (bytes : List ℕ) (wellformed : IsWellformed bytes) (file : List ℕ) 
           let v = settled_at k row w.0 is w.1 in
           let h = holds_at k row v.0.items is (items_get lists k v.0 v.1) in
           subst (λ l. IsMatchList (IsCounted (image_in bytes) file all k) (is_greatest (image_in bytes) file row) l) w.2
-              (settled_is_list (image_in bytes) file (IsCounted (image_in bytes) file all k) (is_greatest (image_in bytes) file row) v.0.items w.0.items h v.2);
+          (settled_is_list (image_in bytes) file (IsCounted (image_in bytes) file all k) (is_greatest (image_in bytes) file row) v.0.items w.0.items h v.2);
     }
 
     pub all_readable : All IsReadable (items_of settled)
@@ -286,3 +292,16 @@ root_cost n root front before first one less = let bound = mul-le-mul_left (n + 
 pub costs_are : (f : ℕ → ℕ) (xs : List ℕ) → costs f xs ≡ sum (map f xs)
 costs_are f [] = refl
 costs_are f (x ∷ xs) = let rest = costs_are f xs in let here = sum_by-cons (λ (y : ℕ). y) (f x) (map f xs) in omega (arith, rest, here)
+
+pub one_vec : (o : Option (Vec Match Global)) (v w : Vec Match Global) → o ≡ Some v → o ≡ Some w → v ≡ w
+one_vec o v w p q = some_is v w (sym p ∙ q)
+  where
+    some_is : (v w : Vec Match Global) → ◌≡◌ {A = Option (Vec Match Global)} (Some v) (Some w) → v ≡ w
+    some_is v w e = ap (λ (o : Option (Vec Match Global)). unwrap_or o v) e
+
+pub one_string : (o : Option StringRow) (v w : StringRow) → o ≡ Some v → o ≡ Some w → v ≡ w
+one_string o v w p q = cc
+
+pub within_budget : (image : Image) (n before now : ℕ) → now ≤ before + 5 * (n + 1) + (n + 1) * front_cost image n → now ≤ before + search_budget image n
+within_budget image n before now le =
+    let same = ap (λ s. (n + 1) * s) (costs_are (output_cost image n) image.outputs) in omega (arith, le, same)

@@ -121,8 +121,8 @@ module _ (image : Image) (file : List ℕ) where
               let before = g.each t.row.string t.string t.list t.is_string t.is_list in
               let after = gather_here H e split t.row (is_greatest image file t.string) t.list t.grown t.is_row t.grows before in
               subst (λ s. Holds (CountedBy (One H e split) k) (is_greatest image file s) list) (sym row_is)
-                  (subst (λ l. Holds (CountedBy (One H e split) k) (is_greatest image file t.string) l) here.1
-                  (subst (λ n. Holds (CountedBy (One H e split) n) (is_greatest image file t.string) t.grown) (sym here.0) after))
+              (subst (λ l. Holds (CountedBy (One H e split) k) (is_greatest image file t.string) l) here.1
+              (subst (λ n. Holds (CountedBy (One H e split) n) (is_greatest image file t.string) t.grown) (sym here.0) after))
           | inr there ↦ gather_there H e split k t.row (is_greatest image file string) list t.is_row there.0 (g.each k string list is there.1)
         ];
   }
@@ -135,21 +135,21 @@ module _ (image : Image) (file : List ℕ) where
       → IsGathered (Some_of H e splits) new
   gather_all H e [] old new g same =
       subst (IsGathered (Some_of H e [])) same
-          (gathered_as H (Some_of H e []) old (λ a s h. inl h) (λ a s h. elim h [ | inl x ↦ x | inr x ↦ absurd (contains_none s x.1) ]) g)
+      (gathered_as H (Some_of H e []) old (λ a s h. inl h) (λ a s h. elim h [ inl x ↦ x | inr x ↦ absurd (contains_none s x.1) ]) g)
   gather_all H e (split ∷ splits) old new g t =
       let one = gather_one H e split old t.0 g t.1 in
       let rest = gather_all (One H e split) e splits t.0 new one t.2 in
       gathered_as (Some_of (One H e split) e splits) (Some_of H e (split ∷ splits)) new
-          (λ a s h. elim h [
-            | inl (inl x) ↦ inl x
-            | inl (inr x) ↦ inr (x.0, subst (Contains (split ∷ splits)) (sym x.1) (contains_first split splits))
-            | inr x ↦ inr (x.0, contains_later split s splits x.1)
-          ])
-          (λ a s h. elim h [
-            | inl x ↦ inl (inl x)
-            | inr x ↦ elim (contains_cases split s splits x.1) [ | inl is ↦ inl (inr (x.0, sym is)) | inr later ↦ inr (x.0, later) ]
-          ])
-          rest
+      (λ a s h. elim h [
+        | inl (inl x) ↦ inl x
+        | inl (inr x) ↦ inr (x.0, subst (Contains (split ∷ splits)) (sym x.1) (contains_first split splits))
+        | inr x ↦ inr (x.0, contains_later split s splits x.1)
+      ])
+      (λ a s h. elim h [
+        | inl x ↦ inl (inl x)
+        | inr x ↦ elim (contains_cases split s splits x.1) [ inl is ↦ inl (inr (x.0, sym is)) | inr later ↦ inr (x.0, later) ]
+      ])
+      rest
 
 -- the hits of fronts from e on
 abbrev pub InFronts : ℕ → List (List ℕ) → ℕ → ℕ → Type 0
@@ -161,15 +161,15 @@ module _ (image : Image) (file : List ℕ) where
       → TakesFronts image file e fronts old new → IsGathered image file (λ a s. H a s ⊎ InFronts e fronts a s) new
   gather_fronts H e [] old new g same =
       subst (IsGathered image file (λ a s. H a s ⊎ InFronts e [] a s)) same
-          (gathered_as image file H (λ a s. H a s ⊎ InFronts e [] a s) old (λ a s h. inl h) (λ a s h. elim h [ | inl x ↦ x | inr x ↦ absurd x ]) g)
+      (gathered_as image file H (λ a s. H a s ⊎ InFronts e [] a s) old (λ a s h. inl h) (λ a s h. elim h [ inl x ↦ x | inr x ↦ absurd x ]) g)
   gather_fronts H e (splits ∷ fronts) old new g t =
       let K : ℕ → ℕ → Type 0 = λ a s. H a s ⊎ ((a ≡ e) × Contains splits s) in
       let one = gather_all image file H e splits old t.0 g t.1 in
       let rest = gather_fronts K (e + 1) fronts t.0 new one t.2 in
       gathered_as image file (λ a s. K a s ⊎ InFronts (e + 1) fronts a s) (λ a s. H a s ⊎ InFronts e (splits ∷ fronts) a s) new
-          (λ a s h. elim h [ | inl (inl x) ↦ inl x | inl (inr x) ↦ inr (inl x) | inr x ↦ inr (inr x) ])
-          (λ a s h. elim h [ | inl x ↦ inl (inl x) | inr (inl x) ↦ inl (inr x) | inr (inr x) ↦ inr x ])
-          rest
+      (λ a s h. elim h [ inl (inl x) ↦ inl x | inl (inr x) ↦ inr (inl x) | inr x ↦ inr (inr x) ])
+      (λ a s h. elim h [ inl x ↦ inl (inl x) | inr (inl x) ↦ inl (inr x) | inr (inr x) ↦ inr x ])
+      rest
 
   pub gather_empty : (lists : List (List Match)) → length lists ≡ length image.strings → ((k : ℕ) (list : List Match) → slice_get lists k ≡ Some list → list ≡ [])
       → IsGathered image file (λ a s. ⊥) lists
@@ -187,13 +187,13 @@ module _ (image : Image) (file : List ℕ) where
   one_size least [] i a b r x y = absurd (contains_none (i, a) x)
   one_size least (m ∷ ms) i a b r x y = elim (contains_cases m (i, a) ms x) [
     | inl p ↦ elim (contains_cases m (i, b) ms y) [
-        | inl q ↦ let same : (i, a) ≡ (i, b) = sym p ∙ q in ap (λ (z : Match). z.1) same
-        | inr q ↦ let up = rises_above (m.0 + 1) ms (i, b) r.1 q in let here = ap (λ (z : Match). z.0) p in absurd (omega (arith, up, here))
-      ]
+      | inl q ↦ let same : (i, a) ≡ (i, b) = sym p ∙ q in ap (λ (z : Match). z.1) same
+      | inr q ↦ let up = rises_above (m.0 + 1) ms (i, b) r.1 q in let here = ap (λ (z : Match). z.0) p in absurd (omega (arith, up, here))
+    ]
     | inr p ↦ elim (contains_cases m (i, b) ms y) [
-        | inl q ↦ let up = rises_above (m.0 + 1) ms (i, a) r.1 p in let here = ap (λ (z : Match). z.0) q in absurd (omega (arith, up, here))
-        | inr q ↦ one_size (m.0 + 1) ms i a b r.1 p q
-      ]
+      | inl q ↦ let up = rises_above (m.0 + 1) ms (i, a) r.1 p in let here = ap (λ (z : Match). z.0) q in absurd (omega (arith, up, here))
+      | inr q ↦ one_size (m.0 + 1) ms i a b r.1 p q
+    ]
   ]
     where
       rises_above : (least : ℕ) (list : List Match) (m : Match) → RisesFrom least list → Contains list m → least ≤ m.0
@@ -221,13 +221,14 @@ module _ (image : Image) (file : List ℕ) where
     rises = s.rises;
     matches = λ k d lt.
         let m = get_or settled k d in
-        let at : Contains settled m = (k, lt, get_same settled k d lt) in
-        (h.sound m.0 m.1 (s.from m at),
-         λ o span.
-         let some = h.complete m.0 o span in
-         let best = s.best m.0 some.0 some.1 in
-         let same : best.0 ≡ m.1 = one_size 0 settled m.0 best.0 m.1 s.rises best.1 at in
-         does_trans greatest (m.0 + m.1) (m.0 + some.0) o (subst (λ n. DoesFor greatest (m.0 + n) (m.0 + some.0)) same best.2) some.2);
+        let at : Contains settled m = (k, lt, get_same settled k d lt) in (
+          h.sound m.0 m.1 (s.from m at),
+          λ o span.
+              let some = h.complete m.0 o span in
+              let best = s.best m.0 some.0 some.1 in
+              let same : best.0 ≡ m.1 = one_size 0 settled m.0 best.0 m.1 s.rises best.1 at in
+              does_trans greatest (m.0 + m.1) (m.0 + some.0) o (subst (λ n. DoesFor greatest (m.0 + n) (m.0 + some.0)) same best.2) some.2,
+        );
     complete = λ i j span.
         let some = h.complete i j span in
         let best = s.best i some.0 some.1 in

@@ -46,16 +46,18 @@ program_there image side place count (inr (inr two)) e = two.1
 pub accepts_rows : (image : Image) (file : List ℕ) (k : ℕ) (rows : ProgramRows) (i j : ℕ) → k < length image.programs → IsProgramOf image k rows
     → (ProgramAccepts image file false k i j) ↔ (Accepts (moves_of rows) (sets_of rows) file i j)
 accepts_rows image file k rows i j lt is =
-    let row = there image.programs k lt in
-    (λ h. subst (λ ms. Accepts ms (sets_of rows) file i j) (sym (is.moves h.0 h.1)) (subst (λ ss. Accepts (image_parts.moves_of image h.0) ss file i j) (sym is.sets) h.2),
-     λ h. (row.0, row.1, subst (λ ss. Accepts (image_parts.moves_of image row.0) ss file i j) is.sets (subst (λ ms. Accepts ms (sets_of rows) file i j) (is.moves row.0 row.1) h)))
+    let row = there image.programs k lt in (
+      λ h. subst (λ ms. Accepts ms (sets_of rows) file i j) (sym (is.moves h.0 h.1)) (subst (λ ss. Accepts (image_parts.moves_of image h.0) ss file i j) (sym is.sets) h.2),
+      λ h. (row.0, row.1, subst (λ ss. Accepts (image_parts.moves_of image row.0) ss file i j) is.sets (subst (λ ms. Accepts ms (sets_of rows) file i j) (is.moves row.0 row.1) h)),
+    )
 
 pub accepts_rows_backwards : (image : Image) (file : List ℕ) (k : ℕ) (rows : ProgramRows) (i j : ℕ) → k < length image.programs → IsProgramOf image k rows
     → (ProgramAccepts image file true k i j) ↔ (AcceptsBackwards (moves_of rows) (sets_of rows) file i j)
 accepts_rows_backwards image file k rows i j lt is =
-    let row = there image.programs k lt in
-    (λ h. subst (λ ms. AcceptsBackwards ms (sets_of rows) file i j) (sym (is.moves h.0 h.1)) (subst (λ ss. AcceptsBackwards (image_parts.moves_of image h.0) ss file i j) (sym is.sets) h.2),
-     λ h. (row.0, row.1, subst (λ ss. AcceptsBackwards (image_parts.moves_of image row.0) ss file i j) is.sets (subst (λ ms. AcceptsBackwards ms (sets_of rows) file i j) (is.moves row.0 row.1) h)))
+    let row = there image.programs k lt in (
+      λ h. subst (λ ms. AcceptsBackwards ms (sets_of rows) file i j) (sym (is.moves h.0 h.1)) (subst (λ ss. AcceptsBackwards (image_parts.moves_of image h.0) ss file i j) (sym is.sets) h.2),
+      λ h. (row.0, row.1, subst (λ ss. AcceptsBackwards (image_parts.moves_of image row.0) ss file i j) is.sets (subst (λ ms. AcceptsBackwards ms (sets_of rows) file i j) (is.moves row.0 row.1) h)),
+    )
 
 module _ (hit : Hit) (good : IsGoodHit hit) where
   pub fields : HasGoodFields (image_of hit.view.now) hit.row
@@ -80,9 +82,10 @@ module _ (hit : Hit) (good : IsGoodHit hit) where
       → StandsAt (IsReadAs hit.row.key (hit.row.fold == 1)) hit.file.now hit.at bytes → IsOnly (LeadsTo hit) (Some (hit.at + length bytes))
   end_literal kind bytes text h =
       let row = hit.row in
-      let is = literal_is (image_of hit.view.now) hit.file.now false row row.after_kind row.after_place row.after_length kind ∙ ap (λ t. Some (Literal t)) (sym text) in
-      ((Literal bytes, is, (refl, h)),
-       λ j l. (leads_by (image_of hit.view.now) hit.file.now false row row.after_kind row.after_place row.after_length (Literal bytes) hit.at j is l).0)
+      let is = literal_is (image_of hit.view.now) hit.file.now false row row.after_kind row.after_place row.after_length kind ∙ ap (λ t. Some (Literal t)) (sym text) in (
+        (Literal bytes, is, (refl, h)),
+        λ j l. (leads_by (image_of hit.view.now) hit.file.now false row row.after_kind row.after_place row.after_length (Literal bytes) hit.at j is l).0,
+      )
 
   pub end_no_literal : hit.row.after_kind ≡ 1 → (bytes : List ℕ) → bytes ≡ pool_text (image_of hit.view.now) hit.row.after_place hit.row.after_length
       → (StandsAt (IsReadAs hit.row.key (hit.row.fold == 1)) hit.file.now hit.at bytes → ⊥) → IsOnly (LeadsTo hit) None
@@ -115,9 +118,10 @@ module _ (hit : Hit) (good : IsGoodHit hit) where
       let image = image_of hit.view.now in
       let side = program_is image hit.file.now false row row.after_kind row.after_place row.after_length kind in
       let lt = program_there image row.after_kind row.after_place row.after_length fields.after kind in
-      let same = accepts_rows image hit.file.now row.after_place rows hit.at j lt is in
-      (λ h. same.0 (leads_by image hit.file.now false row row.after_kind row.after_place row.after_length (Program row.after_place) hit.at j side h),
-       λ h. (Program row.after_place, side, same.1 h))
+      let same = accepts_rows image hit.file.now row.after_place rows hit.at j lt is in (
+        λ h. same.0 (leads_by image hit.file.now false row row.after_kind row.after_place row.after_length (Program row.after_place) hit.at j side h),
+        λ h. (Program row.after_place, side, same.1 h),
+      )
 
   pub program_best : (rows : ProgramRows) (least : ℕ) (found : Option ℕ) → hit.row.after_kind ≡ 2 → IsProgramOf (image_of hit.view.now) hit.row.after_place rows
       → IfSome found (engine.IsBest hit.greatest (engine.IsEnd (moves_of rows) (sets_of rows) hit.file.now hit.at least hit.border))
@@ -125,9 +129,9 @@ module _ (hit : Hit) (good : IsGoodHit hit) where
       → IsBestOf hit.greatest (λ j. EndsAt hit j × (least ≤ j)) found
   program_best rows least found kind is some none =
       best_of hit.greatest (engine.IsEnd (moves_of rows) (sets_of rows) hit.file.now hit.at least hit.border) (λ j. EndsAt hit j × (least ≤ j)) found
-          (λ j h. ((((program_leads rows kind is j).1 h.0), h.2), h.1))
-          (λ j h. ((program_leads rows kind is j).0 h.0.0, h.1, h.0.1))
-          some none
+      (λ j h. ((((program_leads rows kind is j).1 h.0), h.2), h.1))
+      (λ j h. ((program_leads rows kind is j).0 h.0.0, h.1, h.0.1))
+      some none
 
   -- every end is at least the atom's end
   pub near_best : (found : Option ℕ) → IsBestOf hit.greatest (λ j. EndsAt hit j × (hit.at ≤ j)) found → IsBestOf hit.greatest (EndsAt hit) found
@@ -138,7 +142,7 @@ module _ (hit : Hit) (good : IsGoodHit hit) where
       → IsBestOf hit.greatest (λ j. EndsAt hit j × (hit.at < j)) found
   far_best found best =
       best_as hit.greatest (λ j. EndsAt hit j × (hit.at + 1 ≤ j)) (λ j. EndsAt hit j × (hit.at < j)) found
-          (λ j h. (h.0, omega (arith, h.1))) (λ j h. (h.0, omega (arith, h.1))) best
+      (λ j h. (h.0, omega (arith, h.1))) (λ j h. (h.0, omega (arith, h.1))) best
 
   -- where there is no end, there is none past the atom's end
   pub far_none : (found : Option ℕ) → found ≡ None → IsBestOf hit.greatest (EndsAt hit) found → AreEnds hit (record { near = found; far = None })

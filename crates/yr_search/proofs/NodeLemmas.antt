@@ -30,7 +30,6 @@ use Rattle.yr_search.proofs.TakeLemmas.{output_is_split, takes_then}
 -- ---- what an image's nodes are
 
 module _ (bytes : List ℕ) (wellformed : IsWellformed bytes) where
-
   pub node_is : (n : ℕ) (row : NodeRow) → slice_get (image_in bytes).nodes n ≡ Some row → IsNode (image_in bytes) n row
   node_is n row at = wellformed (Node n) row at
 
@@ -83,7 +82,7 @@ module _ (bytes : List ℕ) (wellformed : IsWellformed bytes) where
       let list = take row.outputs (drop row.first_output (image_in bytes).outputs) in
       let value : get_or list k split ≡ split = get_or_from_slice_get list k split split here in
       let long : r.atom_length ≡ row.depth =
-          (subst (λ x. (q : SplitRow) → slice_get (image_in bytes).splits x ≡ Some q → q.atom_length ≡ row.depth) value (atoms k split (slice_get_within list k split here))) r s in
+      (subst (λ x. (q : SplitRow) → slice_get (image_in bytes).splits x ≡ Some q → q.atom_length ≡ row.depth) value (atoms k split (slice_get_within list k split here))) r s in
       omega (arith, long, depth_is n row is, deep)
 
   -- ---- up the links
@@ -140,10 +139,12 @@ module _ (image : Image) (falls : (n : ℕ) → n < length image.nodes → n ≢
   outputs_by (suc k) (suc n) lt le =
       let other : suc n ≢ 0 = omega arith in
       let below = falls (suc n) lt other in
-      let r = outputs_by k (link_of image.nodes (suc n)) (omega (arith, below, lt)) (omega (arith, below, le)) in
-      (suc n ∷ r.0, (refl, inr (other, r.1)),
-       ap (λ l. l ++ own image 0) (upper_more k (suc n) other) ∙ append_assoc (own image (suc n)) (upper_by image k (link_of image.nodes (suc n))) (own image 0)
-       ∙ ap (λ l. own image (suc n) ++ l) r.2)
+      let r = outputs_by k (link_of image.nodes (suc n)) (omega (arith, below, lt)) (omega (arith, below, le)) in (
+        suc n ∷ r.0,
+        (refl, inr (other, r.1)),
+        ap (λ l. l ++ own image 0) (upper_more k (suc n) other) ∙ append_assoc (own image (suc n)) (upper_by image k (link_of image.nodes (suc n))) (own image 0)
+            ∙ ap (λ l. own image (suc n) ++ l) r.2,
+      )
 
   -- all outputs at a node are the upper ones and those of node 0
   pub outputs_are : (n : ℕ) → n < length image.nodes → AreOutputs (link_of image.nodes) (own_of image.nodes image.outputs) n (upper image n ++ own image 0)

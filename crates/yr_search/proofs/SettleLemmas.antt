@@ -101,16 +101,16 @@ module _ (greatest : Bool) where
             elim (contains_cases k m (x ∷ xs) h) [
               | inl is ↦ go m (subst (Contains (k ∷ xs)) is (contains_first k xs))
               | inr later ↦ elim (contains_cases x m xs later) [
-                  | inl is ↦
-                      let first = go k (contains_first k xs) in
-                      (first.0, first.1, first.2 ∙ sym same ∙ ap (λ (y : Match). y.0) is, omega (arith, first.3, s.0, ap (order_of greatest) is))
-                  | inr more ↦ go m (contains_later k m xs more)
-                ]
+                | inl is ↦
+                    let first = go k (contains_first k xs) in
+                    (first.0, first.1, first.2 ∙ sym same ∙ ap (λ (y : Match). y.0) is, omega (arith, first.3, s.0, ap (order_of greatest) is))
+                | inr more ↦ go m (contains_later k m xs more)
+              ]
             ]
         | false ↦ λ e. elim (contains_cases k m (x ∷ xs) h) [
-            | inl is ↦ (k, contains_first k (dedup_from has_same_offset x xs), ap (λ (y : Match). y.0) is, omega (arith, ap (order_of greatest) is))
-            | inr later ↦ kept_later k m (dedup_from has_same_offset x xs) (kept_best x xs s.1 m later)
-          ]
+          | inl is ↦ (k, contains_first k (dedup_from has_same_offset x xs), ap (λ (y : Match). y.0) is, omega (arith, ap (order_of greatest) is))
+          | inr later ↦ kept_later k m (dedup_from has_same_offset x xs) (kept_best x xs s.1 m later)
+        ]
       ] refl
 
   settled_cons : (k : Match) (xs : List Match) → AreShort (k ∷ xs) → Sorts k xs → IsSettled greatest (k ∷ xs) (dedup has_same_offset (k ∷ xs))
@@ -120,7 +120,7 @@ module _ (greatest : Bool) where
     best = λ i size h.
         let kept = kept_best k xs s (i, size) h in
         let there : Contains (dedup_from has_same_offset k xs) (i, kept.0.1) =
-            subst (λ n. Contains (dedup_from has_same_offset k xs) (n, kept.0.1)) kept.2 kept.1 in
+        subst (λ n. Contains (dedup_from has_same_offset k xs) (n, kept.0.1)) kept.2 kept.1 in
         let does = does_for greatest kept.0 (i, size) (short (i, size) h) kept.2 kept.3 in
         (kept.0.1, there, subst (λ n. DoesFor greatest (n + kept.0.1) (i + size)) kept.2 does);
   }

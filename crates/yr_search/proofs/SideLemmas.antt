@@ -111,8 +111,8 @@ pub record HasGoodFields (image : Image) (row : SplitRow) : Type 0 where
 plain_from : (fold key : ℕ) → ((fold == 0) || (key == 0)) ≡ true → fold ≡ 1 → key ≡ 0
 plain_from fold key h one =
     by_test (fold == 0) (key ≡ 0)
-        (λ t. let zero : fold ≡ 0 = (Decides-eqb fold 0).0 t in absurd (omega (arith, zero, one)))
-        (λ t. (Decides-eqb key 0).0 (ap (λ b. b || (key == 0)) (sym t) ∙ h))
+    (λ t. let zero : fold ≡ 0 = (Decides-eqb fold 0).0 t in absurd (omega (arith, zero, one)))
+    (λ t. (Decides-eqb key 0).0 (ap (λ b. b || (key == 0)) (sym t) ∙ h))
 
 pub good_fields : (image : Image) (unused : ℕ) (row : SplitRow) → is_good_split image unused row ≡ true → HasGoodFields image row
 good_fields image unused row h0 =

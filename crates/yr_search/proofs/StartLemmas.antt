@@ -48,16 +48,18 @@ module _ (hit : Hit) (good : IsGoodHit hit) where
       → (i : ℕ) → (StartsAt hit i) ↔ ((begin_of hit ≡ i + length bytes) × StandsAt (IsReadAs hit.row.key (hit.row.fold == 1)) hit.file.now i bytes)
   literal_before kind bytes text i =
       let row = hit.row in
-      let is = literal_is (image_of hit.view.now) hit.file.now true row row.before_kind row.before_place row.before_length kind ∙ ap (λ t. Some (Literal t)) (sym text) in
-      (λ h. leads_by (image_of hit.view.now) hit.file.now true row row.before_kind row.before_place row.before_length (Literal bytes) i (begin_of hit) is h,
-       λ h. (Literal bytes, is, h))
+      let is = literal_is (image_of hit.view.now) hit.file.now true row row.before_kind row.before_place row.before_length kind ∙ ap (λ t. Some (Literal t)) (sym text) in (
+        λ h. leads_by (image_of hit.view.now) hit.file.now true row row.before_kind row.before_place row.before_length (Literal bytes) i (begin_of hit) is h,
+        λ h. (Literal bytes, is, h),
+      )
 
   pub start_literal : hit.row.before_kind ≡ 1 → (bytes : List ℕ) → bytes ≡ pool_text (image_of hit.view.now) hit.row.before_place hit.row.before_length
       → length bytes ≤ begin_of hit → StandsAt (IsReadAs hit.row.key (hit.row.fold == 1)) hit.file.now (begin_of hit - length bytes) bytes
       → IsOnly (StartsAt hit) (Some (begin_of hit - length bytes))
-  start_literal kind bytes text le h =
-      ((literal_before kind bytes text (begin_of hit - length bytes)).1 (omega (arith, le), h),
-       λ i s. let is = ((literal_before kind bytes text i).0 s).0 in omega (arith, is))
+  start_literal kind bytes text le h = (
+    (literal_before kind bytes text (begin_of hit - length bytes)).1 (omega (arith, le), h),
+    λ i s. let is = ((literal_before kind bytes text i).0 s).0 in omega (arith, is),
+  )
 
   pub no_start_room : hit.row.before_kind ≡ 1 → (bytes : List ℕ) → bytes ≡ pool_text (image_of hit.view.now) hit.row.before_place hit.row.before_length
       → begin_of hit < length bytes → (i : ℕ) → StartsAt hit i → ⊥
@@ -77,16 +79,17 @@ module _ (hit : Hit) (good : IsGoodHit hit) where
       let image = image_of hit.view.now in
       let side = program_is image hit.file.now true row row.before_kind row.before_place row.before_length kind in
       let lt = program_there image row.before_kind row.before_place row.before_length (fields hit good).before kind in
-      let same = accepts_rows_backwards image hit.file.now row.before_place rows i (begin_of hit) lt is in
-      (λ h. same.0 (leads_by image hit.file.now true row row.before_kind row.before_place row.before_length (Program row.before_place) i (begin_of hit) side h),
-       λ h. (Program row.before_place, side, same.1 h))
+      let same = accepts_rows_backwards image hit.file.now row.before_place rows i (begin_of hit) lt is in (
+        λ h. same.0 (leads_by image hit.file.now true row row.before_kind row.before_place row.before_length (Program row.before_place) i (begin_of hit) side h),
+        λ h. (Program row.before_place, side, same.1 h),
+      )
 
   -- ---- the end past a start
 
   pub past_near : (ends : Ends) (start : ℕ) → start < hit.at → AreEnds hit ends → IsBestOf hit.greatest (λ j. EndsAt hit j × (start < j)) ends.near
   past_near ends start lt are =
       best_as hit.greatest (EndsAt hit) (λ j. EndsAt hit j × (start < j)) ends.near
-          (λ j h. let up = (leads_up hit good j h.0).0 in (h, omega (arith, up, lt))) (λ j h. h.0) are.near
+      (λ j h. let up = (leads_up hit good j h.0).0 in (h, omega (arith, up, lt))) (λ j h. h.0) are.near
 
   pub past_far : (ends : Ends) (start : ℕ) → StartsAt hit start → hit.at ≤ start → AreEnds hit ends → IsBestOf hit.greatest (λ j. EndsAt hit j × (start < j)) ends.far
   past_far ends start s le are =
@@ -94,15 +97,15 @@ module _ (hit : Hit) (good : IsGoodHit hit) where
       let empty : hit.row.atom_length ≡ 0 = omega (arith, down, le, good.begins) in
       let here : start ≡ hit.at = omega (arith, down, le) in
       best_as hit.greatest (λ j. EndsAt hit j × (hit.at < j)) (λ j. EndsAt hit j × (start < j)) ends.far
-          (λ j h. (h.0, omega (arith, h.1, here))) (λ j h. (h.0, omega (arith, h.1, here))) (are.far empty)
+      (λ j h. (h.0, omega (arith, h.1, here))) (λ j h. (h.0, omega (arith, h.1, here))) (are.far empty)
 
   -- ---- the match at a start
 
   pub no_border : (start : ℕ) (list : List Match) → has_left_border hit.border hit.file.now start ≡ false → Grows (IsSpanFrom hit start) hit.greatest list list
   no_border start list none =
       grows_none hit.greatest (IsSpanFrom hit start) list (λ i j h.
-          let border : has_left_border hit.border hit.file.now start ≡ true = subst (λ k. has_left_border hit.border hit.file.now k ≡ true) h.0 h.1.1 in
-          true≢false (sym border ∙ none))
+      let border : has_left_border hit.border hit.file.now start ≡ true = subst (λ k. has_left_border hit.border hit.file.now k ≡ true) h.0 h.1.1 in
+      true≢false (sym border ∙ none))
 
   pub no_end : (start : ℕ) (list : List Match) → ((j : ℕ) → EndsAt hit j × (start < j) → ⊥) → Grows (IsSpanFrom hit start) hit.greatest list list
   no_end start list none =
@@ -116,8 +119,8 @@ module _ (hit : Hit) (good : IsGoodHit hit) where
       let E : ℕ → Type 0 = λ j. IsBest hit.greatest (λ j. EndsAt hit j × (start < j)) j in
       let best' : E (start + (end - start)) = subst E whole best in
       grows_one hit.greatest (IsSpanFrom hit start) list start (end - start)
-          (refl, (s, border, best'.0.0, best'.0.1))
-          (λ i j h. (h.0, best'.1 j (h.1.2, omega (arith, h.0, h.1.3))))
+      (refl, (s, border, best'.0.0, best'.0.1))
+      (λ i j h. (h.0, best'.1 j (h.1.2, omega (arith, h.0, h.1.3))))
 
   -- ---- one start, or none
 
@@ -146,23 +149,23 @@ module _ (hit : Hit) (good : IsGoodHit hit) where
       → Grows (SpansFrom hit start) hit.greatest a c
   one_more walk start a b c finds best g h =
       grows_join hit.greatest (SpansFrom hit walk.place) (IsSpanFrom hit start) (SpansFrom hit start) a b c g h
-          (λ i j s. (s.0, omega (arith, s.1, best.0.1)))
-          (λ i j s. (s.1, omega (arith, s.0)))
-          (λ i j s. elim (cases_lt i walk.place) [
-            | inl lt ↦
-                let up : i ≤ start = best.1 i ((finds.same i).0 s.0.0, lt) in
-                inr (omega (arith, up, s.1), s.0)
-            | inr le ↦ inl (s.0, le)
-          ])
+      (λ i j s. (s.0, omega (arith, s.1, best.0.1)))
+      (λ i j s. (s.1, omega (arith, s.0)))
+      (λ i j s. elim (cases_lt i walk.place) [
+        | inl lt ↦
+            let up : i ≤ start = best.1 i ((finds.same i).0 s.0.0, lt) in
+            inr (omega (arith, up, s.1), s.0)
+        | inr le ↦ inl (s.0, le)
+      ])
 
   pub all_done : (walk : engine.Walk) (a b : List Match) → Finds hit walk → ((i : ℕ) → engine.IsStart walk i → ⊥)
       → Grows (SpansFrom hit walk.place) hit.greatest a b → Grows (IsSpanOf hit) hit.greatest a b
   all_done walk a b finds none g =
       grows_as hit.greatest (SpansFrom hit walk.place) (IsSpanOf hit) a b g (λ i j s. s.0)
-          (λ i j s. elim (cases_lt i walk.place) [
-            | inl lt ↦ absurd (none i ((finds.same i).0 s.0, lt))
-            | inr le ↦ (s, le)
-          ])
+      (λ i j s. elim (cases_lt i walk.place) [
+        | inl lt ↦ absurd (none i ((finds.same i).0 s.0, lt))
+        | inr le ↦ (s, le)
+      ])
 
 -- ---- what the walk costs
 

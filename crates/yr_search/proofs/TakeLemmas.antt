@@ -51,32 +51,33 @@ one_border n a b p q = cc
 
 pub span_of : (hit : Hit) → IsGoodHit hit → (i j : ℕ) → (IsSpanOf hit i j) ↔ (IsSpan (image_of hit.view.now) hit.file.now hit.row hit.at i j)
 span_of hit good i j = (
-    λ h. record {
-      spans = record {
-        begin = begin_of hit;
-        atom = omega (arith, good.begins);
-        before = h.0.0;
-        before_is = h.0.1;
-        before_spans = h.0.2;
-        after = h.2.0.0;
-        after_is = h.2.0.1;
-        after_spans = h.2.0.2;
-      };
-      longer = h.3;
-      border = hit.border;
-      border_is = good.border_is;
-      begins = h.1;
-      ends = h.2.1;
-    },
-    λ s.
-    let begin : s.spans.begin ≡ begin_of hit = omega (arith, s.spans.atom) in
-    let border : s.border ≡ hit.border = one_border hit.row.border s.border hit.border s.border_is good.border_is in
-    let B : ℕ → Type 0 = λ b. SideSpans (image_of hit.view.now) hit.file.now true hit.row s.spans.before i b in
-    ((s.spans.before, s.spans.before_is, subst B begin s.spans.before_spans),
-     subst (λ b. has_left_border b hit.file.now i ≡ true) border s.begins,
-     ((s.spans.after, s.spans.after_is, s.spans.after_spans), subst (λ b. has_right_border b hit.file.now j ≡ true) border s.ends),
-     s.longer)
-  )
+  λ h. record {
+    spans = record {
+      begin = begin_of hit;
+      atom = omega (arith, good.begins);
+      before = h.0.0;
+      before_is = h.0.1;
+      before_spans = h.0.2;
+      after = h.2.0.0;
+      after_is = h.2.0.1;
+      after_spans = h.2.0.2;
+    };
+    longer = h.3;
+    border = hit.border;
+    border_is = good.border_is;
+    begins = h.1;
+    ends = h.2.1;
+  },
+  λ s.
+      let begin : s.spans.begin ≡ begin_of hit = omega (arith, s.spans.atom) in
+      let border : s.border ≡ hit.border = one_border hit.row.border s.border hit.border s.border_is good.border_is in
+      let B : ℕ → Type 0 = λ b. SideSpans (image_of hit.view.now) hit.file.now true hit.row s.spans.before i b in (
+        (s.spans.before, s.spans.before_is, subst B begin s.spans.before_spans),
+        subst (λ b. has_left_border b hit.file.now i ≡ true) border s.begins,
+        ((s.spans.after, s.spans.after_is, s.spans.after_spans), subst (λ b. has_right_border b hit.file.now j ≡ true) border s.ends),
+        s.longer,
+      ),
+)
 
 -- ---- lists of vectors
 
@@ -118,7 +119,7 @@ pub takes_of : (image : Image) (file : List ℕ) (e split : ℕ) (hit : Hit) →
 takes_of image file e split hit good im fi at row greatest lists count lt list grown is_list grows =
     let string = there image.strings hit.row.string lt in
     let spans = grows_as hit.greatest (IsSpanOf hit) (IsSpan (image_of hit.view.now) hit.file.now hit.row hit.at) list.items grown.items grows
-        (λ i j. (span_of hit good i j).0) (λ i j. (span_of hit good i j).1) in
+    (λ i j. (span_of hit good i j).0) (λ i j. (span_of hit good i j).1) in
     let G : Image → List ℕ → ℕ → Bool → Type 0 = λ m f n b. Grows (IsSpan m f hit.row n) b list.items grown.items in
     record {
       row = hit.row;

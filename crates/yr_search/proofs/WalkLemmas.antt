@@ -74,7 +74,7 @@ module _ (bytes : List ℕ) (wellformed : IsWellformed bytes) where
       let row = there (image_in bytes).nodes n lt in
       let to = there (image_in bytes).nodes x inside in
       let here : target_in (edges_at (image_in bytes).edges row.0) b ≡ Some x =
-          sym (ap (λ o. option_and_then (λ (r : NodeRow). target_in (edges_at (image_in bytes).edges r) b) o) row.1) ∙ found in
+      sym (ap (λ o. option_and_then (λ (r : NodeRow). target_in (edges_at (image_in bytes).edges r) b) o) row.1) ∙ found in
       let deeper = target_deeper (edges_at (image_in bytes).edges row.0) b x (row.0.depth + 1) (λ k e is. (node_is bytes wellformed n row.0 row.1).wellformed.deeper k e is) here to.0 to.1 in
       depth_is bytes wellformed x to.0 to.1 ∙ deeper ∙ ap (λ d. d + 1) (sym (depth_is bytes wellformed n row.0 row.1))
 
@@ -144,7 +144,7 @@ module _ (image : Image) (file : List ℕ) where
   push_get [] x (suc zero) y e = cc
   push_get [] x (suc (suc k)) y e = cc
   push_get (z ∷ zs) x zero y e = inl e
-  push_get (z ∷ zs) x (suc k) y e = elim (push_get zs x k y e) [ | inl h ↦ inl h | inr h ↦ inr (ap suc h.0, h.1) ]
+  push_get (z ∷ zs) x (suc k) y e = elim (push_get zs x k y e) [ inl h ↦ inl h | inr h ↦ inr (ap suc h.0, h.1) ]
 
   pub fronts_next : (p : ℕ) (fronts : List (List ℕ)) (x : ℕ) → AreFronts image file p fronts → LeadsFrom0 image (take (p + 1) file) x → x < length image.nodes
       → AreFronts image file (p + 1) (fronts ++ upper image x ∷ [])

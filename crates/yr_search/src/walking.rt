@@ -62,9 +62,9 @@ pub(crate) fn walk<L: Ledger>(
     ensures lists { length lists.new.items ≡ length lists.old.items }
     ensures least_cost { IfOk result (λ count. steps.old + count ≤ steps.new) }
     ensures most_cost { steps.new + length scene.now.file.now
-            * costs (output_cost (image_of scene.now.view.now) (length scene.now.file.now)) (own (image_of scene.now.view.now) 0)
+        * costs (output_cost (image_of scene.now.view.now) (length scene.now.file.now)) (own (image_of scene.now.view.now) 0)
         ≤ steps.old + 5 * length scene.now.file.now
-            + length scene.now.file.now * front_cost (image_of scene.now.view.now) (length scene.now.file.now) }
+        + length scene.now.file.now * front_cost (image_of scene.now.view.now) (length scene.now.file.now) }
 {
     let mut count = 0;
     let mut node = 0;

@@ -18,4 +18,4 @@ pub returns-clause-most_cost : goal.returns-clause-most_cost
 returns-clause-most_cost g c =
     let hit = c.args.hit.now in
     end_cost (moves_count (image_of hit.view.now) hit.row.after_place) (length (moves_of c.program.result)) (length hit.file.now) hit.at c.args.steps.now c.best_end.new.steps
-        c.best_end.ensures.most_cost c.program.ensures.size
+    c.best_end.ensures.most_cost c.program.ensures.size

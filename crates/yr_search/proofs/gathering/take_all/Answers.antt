@@ -24,7 +24,7 @@ returns-in_err-others-clause-most_cost g c =
     let n = length c.args.scene.now.file.now in
     let share = outputs_cost bytes c.requires.scene.wellformed (output_cost image n) 0 (some_nodes bytes c.requires.scene.wellformed) in
     all_cost n (costs (output_cost image n) (own image 0)) (front_cost image n) c.args.steps.now c.take_root.new.steps c.walk.new.steps
-        c.in_ok-root.ensures.most_cost c.in_err-others.ensures.most_cost (omega (arith, share))
+    c.in_ok-root.ensures.most_cost c.in_err-others.ensures.most_cost (omega (arith, share))
 
 pub returns-clause-most_cost : goal.returns-clause-most_cost
 returns-clause-most_cost g c =
@@ -33,7 +33,7 @@ returns-clause-most_cost g c =
     let n = length c.args.scene.now.file.now in
     let share = outputs_cost bytes c.requires.scene.wellformed (output_cost image n) 0 (some_nodes bytes c.requires.scene.wellformed) in
     all_cost n (costs (output_cost image n) (own image 0)) (front_cost image n) c.args.steps.now c.take_root.new.steps c.walk.new.steps
-        c.in_ok-root.ensures.most_cost c.in_ok-others.ensures.most_cost (omega (arith, share))
+    c.in_ok-root.ensures.most_cost c.in_ok-others.ensures.most_cost (omega (arith, share))
 
 pub overflow_add-result : goal.overflow_add-result
 overflow_add-result g c =

@@ -27,7 +27,7 @@ take_hit-requires-clause-split g c =
     let row = c.node_at-row.result in
     let split = c.output_at-split.result in
     let out : slice_get (image_of c.args.scene.now.view.now).outputs (row.first_output + c.loop-k.k) ≡ Some split =
-        subst (λ os. slice_get os (row.first_output + c.loop-k.k) ≡ Some split) c.requires.scene.outputs c.output_at-split.ensures in
+    subst (λ os. slice_get os (row.first_output + c.loop-k.k) ≡ Some split) c.requires.scene.outputs c.output_at-split.ensures in
     output_is_split (shown_bytes c.args.scene.now.view.now) (row.first_output + c.loop-k.k) split c.requires.scene.wellformed out
 
 pub take_hit-requires-clause-atom : goal.take_hit-requires-clause-atom
@@ -36,7 +36,7 @@ take_hit-requires-clause-atom g c =
     let split = c.output_at-split.result in
     let at : slice_get (image_of c.args.scene.now.view.now).nodes c.args.node ≡ Some row = subst (λ ns. slice_get ns c.args.node ≡ Some row) c.requires.scene.nodes c.node_at-row.ensures in
     let out : slice_get (image_of c.args.scene.now.view.now).outputs (row.first_output + c.loop-k.k) ≡ Some split =
-        subst (λ os. slice_get os (row.first_output + c.loop-k.k) ≡ Some split) c.requires.scene.outputs c.output_at-split.ensures in
+    subst (λ os. slice_get os (row.first_output + c.loop-k.k) ≡ Some split) c.requires.scene.outputs c.output_at-split.ensures in
     own_atom (shown_bytes c.args.scene.now.view.now) c.requires.scene.wellformed c.args.node row c.loop-k.k split c.args.at at c.loop-k-test.true out c.requires.depth
 
 pub take_hit-requires-clause-room : goal.take_hit-requires-clause-room

@@ -13,4 +13,4 @@ pub returns : goal.returns
 returns c =
     let old = c.args.list.now.items in
     subst (IsSettled c.args.greatest old) (sym c.keep_first.ensures)
-        (settled_by c.args.greatest old c.sort.new.list.items c.requires c.sort.ensures.permutation c.sort.ensures.sorted)
+    (settled_by c.args.greatest old c.sort.new.list.items c.requires c.sort.ensures.permutation c.sort.ensures.sorted)

@@ -60,8 +60,8 @@ falling-preserved g c =
       up = omega (arith, inv.up, c.in-Some.ensures.never_falls, c.in_ok-add_match.ensures.least_cost);
       paid = subst (λ p. Paid moves (begin_of hit + 1) p c.args.steps.now c.add_match.new.steps) (sym place)
           (paid_more moves (begin_of hit + 1) old.place c.in-Some.start c.args.steps.now c.falling.steps c.next.new.steps c.add_match.new.steps inv.paid
-              (step_cost (length old.moves) moves old.place new.place c.in-Some.start c.falling.steps c.next.new.steps inv.moves place c.in-Some.ensures.most_cost)
-              best.0.1 c.in_ok-add_match.ensures.most_cost);
+          (step_cost (length old.moves) moves old.place new.place c.in-Some.start c.falling.steps c.next.new.steps inv.moves place c.in-Some.ensures.most_cost)
+          best.0.1 c.in_ok-add_match.ensures.most_cost);
     }
 
 pub returns-in_err-add_match-clause-most_cost : goal.returns-in_err-add_match-clause-most_cost
@@ -72,9 +72,9 @@ returns-in_err-add_match-clause-most_cost g c =
     let moves = moves_count (image_of hit.view.now) hit.row.before_place in
     let place : c.next.new.self.place ≡ c.in-Some.start = ap (λ (w : Walk). w.place) c.in-Some.ensures.walk in
     paid_all moves (begin_of hit + 1) c.in-Some.start c.args.steps.now c.add_match.new.steps
-        (paid_more moves (begin_of hit + 1) old.place c.in-Some.start c.args.steps.now c.falling.steps c.next.new.steps c.add_match.new.steps inv.paid
-            (step_cost (length old.moves) moves old.place c.next.new.self.place c.in-Some.start c.falling.steps c.next.new.steps inv.moves place c.in-Some.ensures.most_cost)
-            c.in-Some.ensures.start.0.1 c.in_err-add_match.ensures.most_cost)
+    (paid_more moves (begin_of hit + 1) old.place c.in-Some.start c.args.steps.now c.falling.steps c.next.new.steps c.add_match.new.steps inv.paid
+    (step_cost (length old.moves) moves old.place c.next.new.self.place c.in-Some.start c.falling.steps c.next.new.steps inv.moves place c.in-Some.ensures.most_cost)
+    c.in-Some.ensures.start.0.1 c.in_err-add_match.ensures.most_cost)
 
 pub returns-clause-grows : goal.returns-clause-grows
 returns-clause-grows g c =
@@ -88,4 +88,4 @@ returns-clause-most_cost g c =
     let moves = moves_count (image_of hit.view.now) hit.row.before_place in
     let place : c.next.new.self.place ≡ 0 = ap (λ (w : Walk). w.place) c.in_default.ensures.walk in
     paid_last moves (begin_of hit + 1) old.place 0 c.args.steps.now c.falling.steps c.next.new.steps inv.paid (omega arith)
-        (step_cost (length old.moves) moves old.place c.next.new.self.place 0 c.falling.steps c.next.new.steps inv.moves place c.in_default.ensures.most_cost)
+    (step_cost (length old.moves) moves old.place c.next.new.self.place 0 c.falling.steps c.next.new.steps inv.moves place c.in_default.ensures.most_cost)

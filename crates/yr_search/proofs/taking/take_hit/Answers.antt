@@ -20,7 +20,7 @@ returns-clause-takes g c =
     let good = split_is_good (shown_bytes view) c.args.split hit.row c.requires.scene.wellformed e.row in
     let string = (good_fields (image_of view) good.0 hit.row good.1).string in
     on_ok c.add_matches.result
-        (takes_of (image_of view) c.args.scene.now.file.now c.args.at c.args.split hit e.good (ap image_of e.view) e.file e.at e.row e.greatest
-            c.args.lists.now.items c.requires.lists string list c.add_matches.new.list
-            (slice_get_read c.args.lists.now.items (length c.args.lists.now.items) hit.row.string list refl (omega (arith, string, c.requires.lists)) c.index_mut-list.ensures.value))
-        c.add_matches.ensures.grows
+    (takes_of (image_of view) c.args.scene.now.file.now c.args.at c.args.split hit e.good (ap image_of e.view) e.file e.at e.row e.greatest
+    c.args.lists.now.items c.requires.lists string list c.add_matches.new.list
+    (slice_get_read c.args.lists.now.items (length c.args.lists.now.items) hit.row.string list refl (omega (arith, string, c.requires.lists)) c.index_mut-list.ensures.value))
+    c.add_matches.ensures.grows

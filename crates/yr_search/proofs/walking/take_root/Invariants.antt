@@ -11,7 +11,7 @@ use Rattle.yr_search.proofs.walking.take_root.Given as goal
 abbrev pub invariant-loop-at : goal.invariant-loop-at
 invariant-loop-at g l = record {
   takes : (new : List (List Match)) → TakesFronts (image_of l.scene.view.now) l.scene.file.now l.at
-        (repeated (length l.scene.file.now + 1 - l.at) (own (image_of l.scene.view.now) 0)) (items_of l.lists.items) new
+      (repeated (length l.scene.file.now + 1 - l.at) (own (image_of l.scene.view.now) 0)) (items_of l.lists.items) new
       → TakesFronts (image_of l.scene.view.now) l.scene.file.now 0 (root_fronts (image_of l.scene.view.now) l.scene.file.now) (items_of l.fn.lists.items) new;
   count : l.count ≡ l.at * length (own (image_of l.scene.view.now) 0);
   room : l.marks.room ≡ l.fn.marks.room;

@@ -64,7 +64,7 @@ returns-in_err-count-clause-most_cost g c =
     let inside = image_inside scene c.requires.scene c.step-node.result c.step-node.ensures.inside in
     let share = outputs_cost (shown_bytes scene.view.now) c.requires.scene.wellformed (output_cost image n) c.step-node.result inside in
     paid_to_end c.loop-at.at n (costs (output_cost image n) (own image 0)) (front_cost image n) (costs (output_cost image n) (upper image c.step-node.result))
-        c.args.steps.now c.loop-at.steps c.step-node.new.steps c.take_upper.new.steps c.loop-at.invariant.most c.step-node.ensures.most c.in_err-count.ensures.most_cost share c.loop-at-test.true
+    c.args.steps.now c.loop-at.steps c.step-node.new.steps c.take_upper.new.steps c.loop-at.invariant.most c.step-node.ensures.most c.in_err-count.ensures.most_cost share c.loop-at-test.true
 
 pub loop-at-preserved : goal.loop-at-preserved
 loop-at-preserved g c =
