@@ -11,3 +11,4 @@ pub mod WalkLemmas
 pub mod SceneLemmas
 pub mod GatherLemmas
 pub mod FinalLemmas
+pub mod SkipLemmas

@@ -6,3 +6,4 @@ pub mod Taking
 pub mod Uppers
 pub mod Walked
 pub mod FoundIn
+pub mod Skips

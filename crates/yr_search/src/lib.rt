@@ -10,6 +10,8 @@ mod node;
 mod scratch;
 mod searching;
 mod settling;
+mod skipping;
+mod skips;
 mod starting;
 mod taking;
 mod walking;
