@@ -118,3 +118,8 @@ paid_to_end at n root front mine before now stepped last paid step taken share l
   where
     add_times : (a b x : ℕ) → (a + b) * x ≡ a * x + b * x
     add_times a b x = omega arith
+
+pub node_rows : (bytes : List ℕ) → IsWellformed bytes → length (image_in bytes).nodes ≡ rows_of bytes 8
+node_rows bytes wellformed =
+    let size = section_bytes bytes 8 (has_sections bytes wellformed) (omega arith) in
+    omega (arith, size, node_count (bytes_of bytes 8))

@@ -1,7 +1,8 @@
 -- What may be passed over.
-use Rattle.std.proofs.Common.{◌≡◌, ◌≢◌, ℕ, zero, suc, ◌+◌, ◌-◌, ◌*◌, ◌/◌, ◌%◌, ◌<◌, ◌≤◌, ◌⊎◌, inl, inr, Bool, true, false, ◌||◌, List, [], ◌∷◌, ◌++◌, length, take, get_or, Option, Some, None, is_some, refl, sym, ap, ap₂, ◌∙◌, subst, arith}
+use Rattle.std.proofs.Common.{◌≡◌, ◌≢◌, ℕ, zero, suc, ◌+◌, ◌-◌, ◌*◌, ◌/◌, ◌%◌, ◌<◌, ◌≤◌, ◌⊎◌, inl, inr, Bool, true, false, not, nat_eq, ◌||◌, List, [], ◌∷◌, ◌++◌, length, take, get_or, Option, Some, None, is_some, refl, sym, ap, ap₂, ◌∙◌, subst, arith}
 use Rattle.std.specs.Prelude.{slice_get, slice_index}
 use Rattle.std.proofs.lemmas.Bool.{cases_lt}
+use Rattle.std.proofs.lemmas.Bool.Decides.{nat_tests}
 use Rattle.std.proofs.lemmas.Option.{slice_get-get_or}
 use Rattle.std.proofs.lemmas.List.{nil_from_length}
 use Rattle.std.proofs.Math.Nat.{mul-le-mul_left}
@@ -29,7 +30,7 @@ push_cases [] x zero y e = inr (refl, cc)
 push_cases [] x (suc zero) y e = cc
 push_cases [] x (suc (suc k)) y e = cc
 push_cases (z ∷ zs) x zero y e = inl e
-push_cases (z ∷ zs) x (suc k) y e = elim (push_cases zs x k y e) [ | inl h ↦ inl h | inr h ↦ inr (ap suc h.0, h.1) ]
+push_cases (z ∷ zs) x (suc k) y e = elim (push_cases zs x k y e) [ inl h ↦ inl h | inr h ↦ inr (ap suc h.0, h.1) ]
 
 pub either_none : (a b : Bool) → (a || b) ≡ false → (a ≡ false) × (b ≡ false)
 either_none true b e = cc
@@ -77,14 +78,18 @@ module _ (bytes : List ℕ) (wellformed : IsWellformed bytes) (file : List ℕ) 
     where
       edge : ℕ → ℕ → Option ℕ
       edge = edge_of (image_in bytes).nodes (image_in bytes).edges
+
       some : 0 < length (image_in bytes).nodes
       some = some_nodes bytes wellformed
+
       same_count : (x : ℕ) → upper (image_in bytes) x ≡ [] → Walked (image_in bytes) file (p + 1) old new (count + length (upper (image_in bytes) x)) → Walked (image_in bytes) file (p + 1) old new count
       same_count x none walked = let long = ap length none in subst (λ n. Walked (image_in bytes) file (p + 1) old new n) (omega (arith, long)) walked
+
       nothing : (x : ℕ) → upper (image_in bytes) x ≡ [] → LeadsFrom0 (image_in bytes) (take (p + 1) file) x → x < length (image_in bytes).nodes → Walked (image_in bytes) file (p + 1) old new count
       nothing x none leads inside =
           same_count x none (walked_next (image_in bytes) file p x old new new count w leads inside
-              (subst (λ o. TakesAll (image_in bytes) file (p + 1) o new new) (sym none) refl))
+          (subst (λ o. TakesAll (image_in bytes) file (p + 1) o new new) (sym none) refl))
+
       go : (o : Option ℕ) → edge_of (image_in bytes).nodes (image_in bytes).edges 0 b ≡ o
           → Stands (image_in bytes) file (p + 1) 0 × Walked (image_in bytes) file (p + 1) old new count
       go None e =
@@ -98,18 +103,25 @@ module _ (bytes : List ℕ) (wellformed : IsWellformed bytes) (file : List ℕ) 
           let other : x ≢ 0 = λ z. let flat : depth_of (image_in bytes) x ≡ 0 = ap (depth_of (image_in bytes)) z ∙ root_depth bytes wellformed some in omega (arith, deep, flat) in
           let falls = link_falls bytes wellformed x row.0 row.1 other in
           let root : row.0.failure ≡ 0 = is_root row.0.failure falls.1 (omega (arith, falls.2, deep)) in
-          let none : upper (image_in bytes) x ≡ [] = no_upper bytes wellformed x row.0 row.1 other is.1 (ap (upper (image_in bytes)) root) in
-          (record {
-            real = x;
-            leads = leads;
-            inside = is.0;
-            like = inr (refl, other, link_is bytes wellformed x row.0 row.1 ∙ root,
+          let none : upper (image_in bytes) x ≡ [] = no_upper bytes wellformed x row.0 row.1 other is.1 (ap (upper (image_in bytes)) root) in (
+            record {
+              real = x;
+              leads = leads;
+              inside = is.0;
+              like = inr (
+                refl,
+                other,
+                link_is bytes wellformed x row.0 row.1 ∙ root,
                 λ d there. let same : d ≡ c = same_byte (slice_get file (p + 1)) d c there next in
-                subst (λ y. edge_of (image_in bytes).nodes (image_in bytes).edges x y ≡ None) (sym same) is.2);
-          }, nothing x none leads is.0)
+                    subst (λ y. edge_of (image_in bytes).nodes (image_in bytes).edges x y ≡ None) (sym same) is.2,
+              );
+            },
+            nothing x none leads is.0,
+          )
         where
           same_byte : (o : Option ℕ) (d c : ℕ) → o ≡ Some d → o ≡ Some c → d ≡ c
           same_byte o d c p q = cc
+
           is_root : (n : ℕ) → n < length (image_in bytes).nodes → depth_of (image_in bytes) n < 1 → n ≡ 0
           is_root zero lt flat = refl
           is_root (suc n) lt flat =
@@ -126,8 +138,8 @@ module _ (bytes : List ℕ) (wellformed : IsWellformed bytes) (file : List ℕ) 
       (subst (λ k. Stands (image_in bytes) file k 0) same stands, subst (λ k. Walked (image_in bytes) file k old new count) same w)
   pass_some table is small (suc d) p q old new count far lt passed stands w =
       let one = pass_one p (slice_index file p) (slice_index file (p + 1)) old new count stands
-          (slice_get-get_or file p 0 (omega (arith, far, lt))) (slice_get-get_or file (p + 1) 0 (omega (arith, far, lt)))
-          (is.passed (slice_index file p) (slice_index file (p + 1)) (small (p + 1)) (passed p (omega arith) (omega (arith, far)))) w in
+      (slice_get-get_or file p 0 (omega (arith, far, lt))) (slice_get-get_or file (p + 1) 0 (omega (arith, far, lt)))
+      (is.passed (slice_index file p) (slice_index file (p + 1)) (small (p + 1)) (passed p (omega arith) (omega (arith, far)))) w in
       pass_some table is small d (p + 1) q old new count (omega (arith, far)) lt (λ k le. passed k (omega (arith, le))) one.0 one.1
 
   -- where the walk stands at node 0, places up to the next live pair are passed; elsewhere none is
@@ -161,3 +173,6 @@ paid_pass p q root front before now le less paid =
 
 pub pair_parts : (b c : ℕ) → c < 256 → ((b * 256 + c) / 256 ≡ b) × ((b * 256 + c) % 256 ≡ c)
 pair_parts b c lt = (omega (arith, lt), omega (arith, lt))
+
+pub no_outputs : (n : ℕ) → not (nat_eq n 0) ≡ false → n ≡ 0
+no_outputs n e = grind (arith, nat_tests)

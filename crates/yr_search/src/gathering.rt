@@ -6,11 +6,13 @@ ghost use Rattle.yr_machine.specs.Budget.{search_budget};
 ghost use Rattle.yr_matches.specs.Found.{items_of};
 ghost use Rattle.yr_search.specs.Programs.{HasRoom};
 ghost use Rattle.yr_search.specs.Taking.{IsGoodScene};
+ghost use Rattle.yr_search.specs.Skips.{AreSkips};
 ghost use Rattle.yr_search.specs.Walked.{front_cost};
 ghost use Rattle.yr_search.specs.FoundIn.{AreTaken, AreSettled, AreAllShort};
 
 use crate::hit::Scene;
 use crate::settling::settle;
+use crate::skips::Skips;
 use crate::walking::{take_root, walk};
 use std::alloc::Global;
 use std::sync::ledger::Ledger;
@@ -32,11 +34,13 @@ pub(crate) fn empty_lists(alloc: Global, count: u32) -> Result<Vec<Vec<(u32, u32
 /// Takes all hits of the image in the file, and says how many there are.
 pub(crate) fn take_all<L: Ledger>(
     scene: &Scene<'_>,
+    skips: &Skips,
     marks: &mut Marks,
     lists: &mut Vec<Vec<(u32, u32)>>,
     steps: &mut Steps<L>,
 ) -> Result<u64, NoMemory>
     requires scene { IsGoodScene scene.now }
+    requires skips { AreSkips (image_of scene.now.view.now) skips.now }
     requires room { HasRoom (image_of scene.now.view.now) marks.old.room }
     requires lists { length lists.old.items ≡ length (image_of scene.now.view.now).strings }
     ensures taken { IfOk result (λ count. AreTaken (image_of scene.now.view.now) scene.now.file.now
@@ -48,7 +52,7 @@ pub(crate) fn take_all<L: Ledger>(
         + (length scene.now.file.now + 1) * front_cost (image_of scene.now.view.now) (length scene.now.file.now) }
 {
     let root = take_root(scene, marks, lists, steps)?;
-    let others = walk(scene, marks, lists, steps)?;
+    let others = walk(scene, skips, marks, lists, steps)?;
     Ok(root + others)
 }
 

@@ -7,6 +7,7 @@ mod hit;
 mod lending;
 mod literal;
 mod node;
+mod scene;
 mod scratch;
 mod searching;
 mod settling;

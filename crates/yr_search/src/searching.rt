@@ -6,36 +6,15 @@ ghost use Rattle.yr_machine.specs.Budget.{search_budget};
 ghost use Rattle.yr_verifier.specs.Verified.{bytes_of};
 ghost use Rattle.yr_search.specs.FoundIn.{IsFoundIn};
 ghost use Rattle.yr_search.specs.Scratches.{IsScratchFor};
-ghost use Rattle.yr_image.specs.Views.{image_of, shown_bytes};
-ghost use Rattle.yr_machine.specs.Wellformed.{IsWellformed};
-ghost use Rattle.yr_search.specs.Taking.{IsGoodScene};
 
 use crate::gathering::{empty_lists, settle_all, take_all};
-use crate::hit::Scene;
+use crate::scene::scene_of;
 use crate::scratch::Scratch;
 use std::alloc::Global;
 use std::sync::ledger::Ledger;
-use yr_automaton::AutomatonRows;
 use yr_base::{NoMemory, Steps};
-use yr_image::ImageView;
 use yr_matches::Matches;
 use yr_verifier::VerifiedImage;
-
-// The image and the file, as the search reads them.
-fn scene_of<'a>(view: &'a ImageView<'a>, file: &'a [u8]) -> Scene<'a>
-    requires wellformed { IsWellformed (shown_bytes view.now) }
-    requires small { length file.now ≤ 2 ^ 28 }
-    ensures good { IsGoodScene result }
-    ensures view { result.view.now ≡ view.now }
-    ensures file { result.file.now ≡ file.now }
-{
-    let rows = view.automaton();
-    Scene {
-        view,
-        automaton: AutomatonRows::over(rows.nodes, rows.edges, rows.outputs),
-        file,
-    }
-}
 
 /// The match lists of the image's strings in the file, and the number of its hits.
 pub fn search<L: Ledger>(
@@ -55,7 +34,13 @@ pub fn search<L: Ledger>(
     let view = image.view();
     let mut lists = empty_lists(alloc, view.rows(3))?;
     let scene = scene_of(&view, file);
-    let hits = take_all(&scene, &mut scratch.marks, &mut lists, steps)?;
+    let hits = take_all(
+        &scene,
+        &scratch.skips,
+        &mut scratch.marks,
+        &mut lists,
+        steps,
+    )?;
     settle_all(&scene, &mut lists);
     Ok(Matches::new(lists, hits))
 }

@@ -27,4 +27,4 @@ returns c = λ e.
     let inside = image_inside scene c.requires n c.in-Some.ensures.inside in
     let none = own_none (shown_bytes scene.view.now) c.requires.wellformed n c.node_at.result at c.if-node_at-ne0.false in
     passed_node image c.args.first c.args.second n (sym (scene_edge scene c.requires 0 c.args.first) ∙ sym c.edge.ensures.value ∙ c.in-Some.is) inside none
-        (sym (scene_edge scene c.requires n c.args.second) ∙ sym c.edge-2.ensures.value ∙ none_from c.edge-2.result (sym c.is_some.ensures ∙ e))
+    (sym (scene_edge scene c.requires n c.args.second) ∙ sym c.edge-2.ensures.value ∙ none_from c.edge-2.result (sym c.is_some.ensures ∙ e))

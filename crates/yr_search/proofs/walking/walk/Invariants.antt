@@ -6,9 +6,10 @@ use Rattle.yr_search.specs.Uppers.{own, costs, depth_of}
 use Rattle.yr_search.specs.Walked.{Stands, Walked, front_cost}
 use Rattle.yr_search.proofs.walking.walk.Given as goal
 
-abbrev pub invariant-loop-at : goal.invariant-loop-at
-invariant-loop-at g l = record {
+abbrev pub invariant-along : goal.invariant-along
+invariant-along g l = record {
   stands : Stands (image_of l.scene.view.now) l.scene.file.now l.at l.node;
+  far : l.at ≤ length l.scene.file.now;
   inside : l.node < length (image_of l.scene.view.now).nodes;
   deep : depth_of (image_of l.scene.view.now) l.node ≤ l.at;
   walked : Walked (image_of l.scene.view.now) l.scene.file.now l.at (items_of l.fn.lists.items) (items_of l.lists.items) l.count;
@@ -19,3 +20,6 @@ invariant-loop-at g l = record {
   most : l.steps + l.at * costs (output_cost (image_of l.scene.view.now) (length l.scene.file.now)) (own (image_of l.scene.view.now) 0)
       ≤ l.initial.steps + 5 * l.at + l.at * front_cost (image_of l.scene.view.now) (length l.scene.file.now);
 }
+
+abbrev pub decreases-along : goal.decreases-along
+decreases-along g l = length l.scene.file.now - l.at
