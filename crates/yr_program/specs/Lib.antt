@@ -3,3 +3,4 @@ pub mod Code
 pub mod Drafts
 pub mod Written
 pub mod Programs
+pub mod Kept

@@ -12,6 +12,7 @@ ghost use Rattle.yr_program.specs.Programs.{program_moves, program_sets, turned_
 
 use crate::draft::{Draft, DraftMove};
 use crate::emission::emit;
+use crate::keeping::without_empty_parts;
 use crate::program::Program;
 use crate::writing::write;
 use std::alloc::Global;
@@ -54,8 +55,9 @@ fn build(alloc: Global, p: &Pattern) -> Result<Draft, NoMemory>
     ensures { IfOk result (λ draft. acts_of draft ≡ program_of (tree_of p.now)) }
 {
     let mut draft = Draft::new(alloc);
-    let end = size(p) as u32;
-    emit(&mut draft, p, end)?;
+    let left = without_empty_parts(alloc, p)?;
+    let end = size(&left) as u32;
+    emit(&mut draft, &left, end)?;
     draft.put(DraftMove::Accept)?;
     Ok(draft)
 }

@@ -4,6 +4,7 @@
 mod assembly;
 mod draft;
 mod emission;
+mod keeping;
 mod program;
 #[cfg(test)]
 mod tests;

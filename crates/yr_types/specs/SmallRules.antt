@@ -1,5 +1,5 @@
 -- Rule files of one line each, on which every check fails once, and their neighbours on which it does not.
-use Rattle.std.specs.Prelude.{ℕ, zero, suc, ◌+◌, pos, true, false, List, [], ◌∷◌, ◌++◌, map, length, codes, Option, Some, Result, Ok, Err}
+use Rattle.std.specs.Prelude.{ℕ, zero, suc, ◌+◌, pos, true, false, List, [], ◌∷◌, ◌++◌, map, length, codes, Option, Some, Ok, Err}
 use Rattle.std.specs.List.{range_with_len}
 use Rattle.std.specs.Option.{option_map}
 use Rattle.yr_pattern.specs.Tree as pattern
@@ -9,9 +9,9 @@ use Rattle.yr_syntax.specs.Declaration as declaration
 use Rattle.yr_syntax.specs.Declaration.{Declaration, StringTree, ModifierTree}
 use Rattle.yr_values.specs.Values as value
 use Rattle.yr_rules.specs.NodeTree.{NodeTree}
-use Rattle.yr_types.specs.Names.{Name}
+use Rattle.yr_numbered.specs.Names.{Name}
 use Rattle.yr_types.specs.Sources.{UnitTree, items_of}
-use Rattle.yr_types.specs.Readers.{Readers, Expression, HexRefusal, RegexRefusal}
+use Rattle.yr_nodes.specs.Readers.{Readers, HexRefusal, RegexRefusal}
 use Rattle.yr_types.specs.Given.{Given, Finding}
 use Rattle.yr_types.specs.Checked.{checked_rules}
 use Rattle.yr_types.specs.Refusals.{PlainRefusal, first_fault}

@@ -16,12 +16,12 @@ pub sum_of_rows-requires-clause-code : goal.sum_of_rows-requires-clause-code
 sum_of_rows-requires-clause-code c =
     let r = c.requires in
     let back : image_of c.over.result ≡ shown c.args.tables.now =
-    ap image_in (c.over.ensures ∙ r.encoding) ∙ c.tables_come_back.ensures c.args.tables.now r.fits in
+    ap image_in (c.over.ensures ∙ r.encoding) ∙ c.tables_come_back.ensures.tables c.args.tables.now r.fits in
     subst (λ (image : Image). c.args.rows ≤ length image.code) (sym back) (omega (arith, r.code))
 
 pub sum_of_rows-requires-clause-notes : goal.sum_of_rows-requires-clause-notes
 sum_of_rows-requires-clause-notes c =
     let r = c.requires in
     let back : image_of c.over.result ≡ shown c.args.tables.now =
-    ap image_in (c.over.ensures ∙ r.encoding) ∙ c.tables_come_back.ensures c.args.tables.now r.fits in
+    ap image_in (c.over.ensures ∙ r.encoding) ∙ c.tables_come_back.ensures.tables c.args.tables.now r.fits in
     subst (λ (image : Image). c.args.rows ≤ length image.notes) (sym back) (omega (arith, r.notes))

@@ -1,0 +1,3 @@
+pub mod ListedRows
+pub mod TableLemmas
+pub mod FitLemmas

@@ -1,0 +1,7 @@
+//! The modules that rules may import: their names, their values for a file, and that these keep the table of ids of images.
+#![tactic(auto)]
+
+mod joined;
+pub mod laws;
+
+pub use joined::{FileModules, module_names, modules_of};

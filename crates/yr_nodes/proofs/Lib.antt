@@ -1,0 +1,6 @@
+pub mod ReaderLemmas
+pub mod FixedLemmas
+pub mod LowLemmas
+pub mod ShapeLemmas
+pub mod NumberLemmas
+pub mod PartLemmas

@@ -1,0 +1,33 @@
+//! Names of a rule file.
+
+ghost use Rattle.std.specs.Prelude.{◌≡◌};
+
+use std::marker::Model;
+
+/// A name in the text of a rule, without its sign. Contracts see its bytes.
+#[derive(Drop)]
+pub struct Name<'a> {
+    bytes: &'a [u8],
+}
+
+impl<'a> Model for Name<'a> {
+    ghost use Rattle.std.specs.Prelude.{ℕ, List};
+
+    ghost Value = { List ℕ };
+
+    ghost view = { λ n. n.bytes.now };
+}
+
+impl<'a> Name<'a> {
+    pub fn new(bytes: &'a [u8]) -> Name<'a>
+        ensures { result ≡ bytes.now }
+    {
+        Name { bytes }
+    }
+
+    pub fn bytes(&self) -> &'a [u8]
+        ensures { result.now ≡ self.now }
+    {
+        self.bytes
+    }
+}

@@ -1,0 +1,5 @@
+pub mod Header
+pub mod Sections
+pub mod EntryPoint
+pub mod Fields
+pub mod ModuleRows
