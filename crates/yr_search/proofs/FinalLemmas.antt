@@ -305,3 +305,11 @@ one_string o v w p q = cc
 pub within_budget : (image : Image) (n before now : ℕ) → now ≤ before + 5 * (n + 1) + (n + 1) * front_cost image n → now ≤ before + search_budget image n
 within_budget image n before now le =
     let same = ap (λ s. (n + 1) * s) (costs_are (output_cost image n) image.outputs) in omega (arith, le, same)
+
+-- the hits of node 0 are counted apart
+pub apart : (bytes : List ℕ) (wellformed : IsWellformed bytes) (file : List ℕ) (fronts : List (List ℕ)) → AreFronts (image_in bytes) file (length file) fronts
+    → (hits : List (List ℕ)) × AreHits (image_in bytes) file hits × (hit_count hits ≡ (length file + 1) * length (own (image_in bytes) 0) + total fronts)
+apart bytes wellformed file fronts are =
+    let root = own (image_in bytes) 0 in
+    (all_hits root fronts, hits_are bytes wellformed file fronts are,
+     count_hits root fronts ∙ ap (λ n. n * length root + total fronts) are.count)

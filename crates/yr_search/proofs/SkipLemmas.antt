@@ -18,7 +18,7 @@ use Rattle.yr_machine.specs.Wellformed.{IsWellformed}
 use Rattle.yr_search.specs.declared.hit.Scene.{Scene}
 use Rattle.yr_search.specs.Taking.{IsGoodScene, TakesAll}
 use Rattle.yr_search.specs.Uppers.{own, upper, depth_of, LeadsFrom0}
-use Rattle.yr_search.specs.Walked.{Stands, Walked}
+use Rattle.yr_search.specs.Walked.{Stands, Walked, IsUpperAfter}
 use Rattle.yr_search.specs.Skips.{IsPassed, IsPairTable, AreFlags}
 use Rattle.yr_search.proofs.HitLemmas.{there}
 use Rattle.yr_search.proofs.NodeLemmas.{node_is, depth_is, link_is, link_falls, upper_at, own_length}
@@ -69,32 +69,18 @@ own_none bytes wellformed n row at none =
     nil_from_length (own (image_in bytes) n) (omega (arith, own_length bytes wellformed n row at, none))
 
 module _ (bytes : List ℕ) (wellformed : IsWellformed bytes) (file : List ℕ) where
-  -- where the walk stands at node 0, one place is passed
-  pub pass_one : (p b c : ℕ) (old new : List (List Match)) (count : ℕ) → Stands (image_in bytes) file p 0 → slice_get file p ≡ Some b → slice_get file (p + 1) ≡ Some c
-      → IsPassed (image_in bytes) b c → Walked (image_in bytes) file p old new count
-      → Stands (image_in bytes) file (p + 1) 0 × Walked (image_in bytes) file (p + 1) old new count
-  pass_one p b c old new count stands at next passed w =
-      go (edge_of (image_in bytes).nodes (image_in bytes).edges 0 b) refl
+  -- where the walk stands at node 0, one place is passed: it leads to a node without outputs but those of node 0
+  passed_at : (p b c : ℕ) → Stands (image_in bytes) file p 0 → slice_get file p ≡ Some b → slice_get file (p + 1) ≡ Some c → IsPassed (image_in bytes) b c
+      → Stands (image_in bytes) file (p + 1) 0 × ((x : ℕ) × LeadsFrom0 (image_in bytes) (take (p + 1) file) x × (x < length (image_in bytes).nodes) × (upper (image_in bytes) x ≡ []))
+  passed_at p b c stands at next passed = go (edge_of (image_in bytes).nodes (image_in bytes).edges 0 b) refl
     where
-      edge : ℕ → ℕ → Option ℕ
-      edge = edge_of (image_in bytes).nodes (image_in bytes).edges
-
       some : 0 < length (image_in bytes).nodes
       some = some_nodes bytes wellformed
-
-      same_count : (x : ℕ) → upper (image_in bytes) x ≡ [] → Walked (image_in bytes) file (p + 1) old new (count + length (upper (image_in bytes) x)) → Walked (image_in bytes) file (p + 1) old new count
-      same_count x none walked = let long = ap length none in subst (λ n. Walked (image_in bytes) file (p + 1) old new n) (omega (arith, long)) walked
-
-      nothing : (x : ℕ) → upper (image_in bytes) x ≡ [] → LeadsFrom0 (image_in bytes) (take (p + 1) file) x → x < length (image_in bytes).nodes → Walked (image_in bytes) file (p + 1) old new count
-      nothing x none leads inside =
-          same_count x none (walked_next (image_in bytes) file p x old new new count w leads inside
-          (subst (λ o. TakesAll (image_in bytes) file (p + 1) o new new) (sym none) refl))
-
       go : (o : Option ℕ) → edge_of (image_in bytes).nodes (image_in bytes).edges 0 b ≡ o
-          → Stands (image_in bytes) file (p + 1) 0 × Walked (image_in bytes) file (p + 1) old new count
+          → Stands (image_in bytes) file (p + 1) 0 × ((x : ℕ) × LeadsFrom0 (image_in bytes) (take (p + 1) file) x × (x < length (image_in bytes).nodes) × (upper (image_in bytes) x ≡ []))
       go None e =
           let leads = stands_step bytes wellformed file p 0 b 0 1 stands at some (inr (inl (refl, e, refl, refl))) in
-          (stands_at bytes wellformed file (p + 1) 0 leads some, nothing 0 refl leads some)
+          (stands_at bytes wellformed file (p + 1) 0 leads some, (0, leads, some, refl))
       go (Some x) e =
           let is = passed x e in
           let leads = stands_step bytes wellformed file p 0 b x 1 stands at is.0 (inl (refl, e)) in
@@ -103,31 +89,42 @@ module _ (bytes : List ℕ) (wellformed : IsWellformed bytes) (file : List ℕ) 
           let other : x ≢ 0 = λ z. let flat : depth_of (image_in bytes) x ≡ 0 = ap (depth_of (image_in bytes)) z ∙ root_depth bytes wellformed some in omega (arith, deep, flat) in
           let falls = link_falls bytes wellformed x row.0 row.1 other in
           let root : row.0.failure ≡ 0 = is_root row.0.failure falls.1 (omega (arith, falls.2, deep)) in
-          let none : upper (image_in bytes) x ≡ [] = no_upper bytes wellformed x row.0 row.1 other is.1 (ap (upper (image_in bytes)) root) in (
-            record {
-              real = x;
-              leads = leads;
-              inside = is.0;
-              like = inr (
-                refl,
-                other,
-                link_is bytes wellformed x row.0 row.1 ∙ root,
+          let none : upper (image_in bytes) x ≡ [] = no_upper bytes wellformed x row.0 row.1 other is.1 (ap (upper (image_in bytes)) root) in
+          (record {
+            real = x;
+            leads = leads;
+            inside = is.0;
+            like = inr (refl, other, link_is bytes wellformed x row.0 row.1 ∙ root,
                 λ d there. let same : d ≡ c = same_byte (slice_get file (p + 1)) d c there next in
-                    subst (λ y. edge_of (image_in bytes).nodes (image_in bytes).edges x y ≡ None) (sym same) is.2,
-              );
-            },
-            nothing x none leads is.0,
-          )
+                subst (λ y. edge_of (image_in bytes).nodes (image_in bytes).edges x y ≡ None) (sym same) is.2);
+          }, (x, leads, is.0, none))
         where
           same_byte : (o : Option ℕ) (d c : ℕ) → o ≡ Some d → o ≡ Some c → d ≡ c
           same_byte o d c p q = cc
-
           is_root : (n : ℕ) → n < length (image_in bytes).nodes → depth_of (image_in bytes) n < 1 → n ≡ 0
           is_root zero lt flat = refl
           is_root (suc n) lt flat =
               let row = there (image_in bytes).nodes (suc n) lt in
               let up = (node_is bytes wellformed (suc n) row.0 row.1).wellformed.deep (omega arith) in
               absurd (omega (arith, up, depth_is bytes wellformed (suc n) row.0 row.1, flat))
+
+  pub pass_front : (p b c : ℕ) → Stands (image_in bytes) file p 0 → slice_get file p ≡ Some b → slice_get file (p + 1) ≡ Some c → IsPassed (image_in bytes) b c
+      → Stands (image_in bytes) file (p + 1) 0 × IsUpperAfter (image_in bytes) (take (p + 1) file) []
+  pass_front p b c stands at next passed =
+      let done = passed_at p b c stands at next passed in
+      (done.0, (done.1.0, done.1.1, done.1.2, sym done.1.3))
+
+  pub pass_one : (p b c : ℕ) (old new : List (List Match)) (count : ℕ) → Stands (image_in bytes) file p 0 → slice_get file p ≡ Some b → slice_get file (p + 1) ≡ Some c
+      → IsPassed (image_in bytes) b c → Walked (image_in bytes) file p old new count
+      → Stands (image_in bytes) file (p + 1) 0 × Walked (image_in bytes) file (p + 1) old new count
+  pass_one p b c old new count stands at next passed w =
+      let done = passed_at p b c stands at next passed in
+      let x = done.1.0 in
+      let none : upper (image_in bytes) x ≡ [] = done.1.3 in
+      let long = ap length none in
+      let walked = walked_next (image_in bytes) file p x old new new count w done.1.1 done.1.2
+          (subst (λ o. TakesAll (image_in bytes) file (p + 1) o new new) (sym none) refl) in
+      (done.0, subst (λ n. Walked (image_in bytes) file (p + 1) old new n) (omega (arith, long)) walked)
 
   pass_some : (table : List Bool) → IsPairTable (image_in bytes) table → ((i : ℕ) → slice_index file i < 256) → (d p q : ℕ) (old new : List (List Match)) (count : ℕ) → q ≡ p + d → q < length file
       → ((k : ℕ) → p ≤ k → k < q → slice_get table (slice_index file k * 256 + slice_index file (k + 1)) ≡ Some false)

@@ -4,6 +4,7 @@
 mod ending;
 mod gathering;
 mod hit;
+pub mod laws;
 mod lending;
 mod literal;
 mod node;
@@ -15,6 +16,8 @@ mod skipping;
 mod skips;
 mod starting;
 mod taking;
+#[cfg(test)]
+mod tests;
 mod walking;
 
 pub use lending::program;
