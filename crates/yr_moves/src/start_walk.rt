@@ -65,6 +65,7 @@ impl<'a> StartWalk<'a> {
         ensures walk { self.new ≡ record self.old { place = unwrap_or result 0 } }
         ensures midway { IsMidway self.new marks.new × (marks.new.room ≡ marks.old.room) }
         ensures least_cost { IfSome result (λ i. steps.old + (self.old.place - i) ≤ steps.new) }
+        ensures never_falls { steps.old ≤ steps.new }
         ensures most_cost { steps.new ≤ steps.old + length self.old.moves * (self.old.place - self.new.place) }
     {
         let now = &mut marks.now;
@@ -86,6 +87,7 @@ impl<'a> StartWalk<'a> {
         ensures walk { self.new ≡ record self.old { place = unwrap_or result 0 } }
         ensures midway { IsMidway self.new now.new × (now.new.room ≡ now.old.room) × (onwards.new.room ≡ now.old.room) }
         ensures least_cost { IfSome result (λ i. steps.old + (self.old.place - i) ≤ steps.new) }
+        ensures never_falls { steps.old ≤ steps.new }
         ensures most_cost { steps.new ≤ steps.old + length self.old.moves * (self.old.place - self.new.place) }
     {
         'falling: while self.place() > 0 {

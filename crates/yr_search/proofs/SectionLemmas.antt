@@ -9,7 +9,7 @@ use Rattle.yr_rows.proofs.RowLemmas.{length-rows_in, moves_in-range}
 use Rattle.yr_image.specs.declared.rows.ProgramRow.{ProgramRow}
 use Rattle.yr_image.specs.declared.fault.ImageFault.TheVariants.{ProgramBad}
 use Rattle.yr_image.specs.Image.{Image, moves_of}
-use Rattle.yr_image.specs.Reading.{image_in, program_row}
+use Rattle.yr_image.specs.Reading.{image_in, program_row, string_row}
 use Rattle.yr_image.specs.Sections.{HasSections, widths, version_in, rows_of, size_of, end_of, place_of, bytes_of}
 use Rattle.yr_machine.specs.Wellformed.{IsWellformed}
 use Rattle.yr_machine.specs.Budget.{moves_count}
@@ -45,3 +45,8 @@ program_in_bytes bytes k row wellformed at =
     let inside = (wellformed_program bytes k row wellformed at).0 in
     let size = section_bytes bytes 7 (has_sections bytes wellformed) (omega arith) in
     omega (arith, inside, size, length-rows_in 16 move_row (bytes_of bytes 7))
+
+pub string_rows : (bytes : List ℕ) → HasSections bytes → length (image_in bytes).strings ≡ rows_of bytes 3
+string_rows bytes has =
+    let size = section_bytes bytes 3 has (omega arith) in
+    omega (arith, size, length-rows_in 16 string_row (bytes_of bytes 3))

@@ -21,8 +21,8 @@ pub fn program<'a>(view: &ImageView<'a>, k: u32) -> ProgramRows<'a>
     ProgramRows::over(moves, view.bytes_of(5))
 }
 
-// The bytes of a range.
-fn part<'a>(bytes: &'a [u8], first: usize, size: usize) -> &'a [u8]
+/// The bytes of a range.
+pub(crate) fn part<'a>(bytes: &'a [u8], first: usize, size: usize) -> &'a [u8]
     requires { first + size ≤ length bytes.now }
     ensures { result.now ≡ take size (drop first bytes.now) }
 {

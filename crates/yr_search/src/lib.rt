@@ -1,8 +1,25 @@
 //! The search of a file for the strings of an image.
 #![tactic(auto)]
 
+mod ending;
+mod gathering;
+mod hit;
+pub mod laws;
 mod lending;
+mod literal;
+mod node;
+mod scene;
 mod scratch;
+mod searching;
+mod settling;
+mod skipping;
+mod skips;
+mod starting;
+mod taking;
+#[cfg(test)]
+mod tests;
+mod walking;
 
 pub use lending::program;
 pub use scratch::Scratch;
+pub use searching::search;

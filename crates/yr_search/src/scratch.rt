@@ -4,6 +4,9 @@ ghost use Rattle.std.specs.Prelude.{IfOk};
 ghost use Rattle.yr_verifier.specs.Verified.{bytes_of};
 
 use crate::lending::most_moves;
+use crate::scene::scene_of;
+use crate::skipping::skips_of;
+use crate::skips::Skips;
 use std::alloc::Global;
 use yr_base::NoMemory;
 use yr_moves::Marks;
@@ -14,6 +17,7 @@ use yr_verifier::VerifiedImage;
 pub struct Scratch {
     /// Room for the moves of each program of the image.
     pub marks: Marks,
+    pub(crate) skips: Skips,
 }
 
 impl Scratch {
@@ -22,7 +26,9 @@ impl Scratch {
     pub fn for_image(alloc: Global, image: &VerifiedImage<'_>) -> Result<Scratch, NoMemory>
         ensures { IfOk result (IsScratchFor (bytes_of image.now)) }
     {
-        let marks = Marks::for_moves(alloc, most_moves(&image.view()))?;
-        Ok(Scratch { marks })
+        let view = image.view();
+        let marks = Marks::for_moves(alloc, most_moves(&view))?;
+        let skips = skips_of(alloc, &scene_of(&view, &[]))?;
+        Ok(Scratch { marks, skips })
     }
 }
