@@ -4,3 +4,4 @@ pub mod LowLemmas
 pub mod ShapeLemmas
 pub mod NumberLemmas
 pub mod PartLemmas
+pub mod MadeLemmas

@@ -33,6 +33,18 @@ fn external(alloc: Global, exact: bool, externals: &[External], number: usize) -
     }
 }
 
+/// A field of an entry.
+fn field_at(alloc: Global, id: u16, kind: Kind, index: Node) -> Result<Node, NoMemory>
+    ensures { IfOk result (λ n. tree_of n ≡ node.FieldAt id kind (tree_of index)) }
+{
+    let index = Box::new(alloc, index)?;
+    Ok(Node::Field {
+        id,
+        kind,
+        index: Some(index),
+    })
+}
+
 /// A field of an entry takes the index that is written last.
 fn written_field(
     alloc: Global,
@@ -48,12 +60,7 @@ fn written_field(
     let Some(index) = written.remove(0) else {
         return Ok(None);
     };
-    let index = Box::new(alloc, index)?;
-    Ok(Some(Node::Field {
-        id,
-        kind,
-        index: Some(index),
-    }))
+    Ok(Some(field_at(alloc, id, kind, index)?))
 }
 
 fn field(
@@ -73,12 +80,8 @@ fn field(
             index: None,
         })),
         Index::OfLoop(number) => {
-            let index = Box::new(alloc, Node::Var(number as u32))?;
-            Ok(Some(Node::Field {
-                id,
-                kind,
-                index: Some(index),
-            }))
+            let index = Node::Var(number as u32);
+            Ok(Some(field_at(alloc, id, kind, index)?))
         }
         Index::Written => written_field(alloc, id, kind, written),
     }
