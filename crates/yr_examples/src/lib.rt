@@ -5,3 +5,5 @@
 mod elf_files;
 #[cfg(test)]
 mod encoding;
+#[cfg(test)]
+mod patterns;

@@ -1,11 +1,11 @@
 -- The rows of an automaton of words are not many more than the bytes of the words.
-use Rattle.std.proofs.Common.{◌≡◌, ◌≢◌, ℕ, zero, suc, ◌+◌, ◌-◌, ◌<◌, ◌≤◌, ◌⊎◌, inl, inr, ⊎_elim, List, [], ◌∷◌, ◌++◌, length, map, take, drop, sum, All, Contains, Option, Some, None, option_map, slice_get, get_or, refl, sym, ap, ◌∙◌, subst, arith}
+use Rattle.std.proofs.Common.{◌≡◌, ◌≢◌, ℕ, zero, suc, ◌+◌, ◌-◌, ◌<◌, ◌≤◌, ◌⊎◌, inl, inr, ⊎_elim, List, [], ◌∷◌, ◌++◌, length, map, take, drop, All, Contains, Option, Some, None, option_map, slice_get, get_or, refl, sym, ap, ◌∙◌, subst, arith}
 use Rattle.std.specs.Option.{option_and_then, option_map_or}
 use Rattle.std.proofs.lemmas.Bool.{cases_lt}
 use Rattle.std.proofs.lemmas.List.{length-map, length-append}
 use Rattle.std.proofs.lemmas.List.Elements.{Contains-append_left, Contains-append_right, All-contains_itself, All-weaker, All-map}
-use Rattle.std.proofs.lemmas.Option.{same_Some, none-some, slice_get-map, slice_get_within, slice_get_cases, option_and_then_some}
-use Rattle.yr_rows.specs.Nodes.{edge_of, edges_at, edges_end, end_before, IsEdge, IsWellformedNode, AreWellformed}
+use Rattle.std.proofs.lemmas.Option.{same_Some, none-some, slice_get-map, slice_get_within, slice_get_cases}
+use Rattle.yr_rows.specs.Nodes.{edges_at, edges_end, end_before, IsEdge, IsWellformedNode, AreWellformed}
 use Rattle.yr_rows.specs.Words.{times, path, IsWordOf, BeginsWith, HasOneParent, HasOneOutput, HasWords, HasOnlyPrefixes}
 use Rattle.yr_rows.specs.declared.nodes.NodeRow.{NodeRow}
 use Rattle.yr_rows.specs.declared.nodes.EdgeRow.{EdgeRow}

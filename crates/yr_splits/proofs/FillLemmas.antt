@@ -11,7 +11,8 @@ use Rattle.yr_pattern.specs.Variants.{PlainVariant, Body}
 use Rattle.yr_pattern.specs.Variants as variant
 use Rattle.yr_rules.specs.Rules.{PlainString}
 use Rattle.yr_rules.specs.Weight.{total, string_weight, variant_weight, body_weight}
-use Rattle.yr_rules.specs.Wellformed.{IsSoundBody, IsGoodVariant}
+use Rattle.yr_pattern.specs.Variants.{IsSoundBody}
+use Rattle.yr_rules.specs.Wellformed.{IsGoodVariant}
 use Rattle.yr_atoms.specs.Splits.{Split, Piece, piece_size}
 use Rattle.yr_atoms.specs.Splits as piece
 use Rattle.yr_atoms.specs.Covers.{Covers, HaveAtomsOf, HasAtomOf, IsNoLarger, HasItsKey}
@@ -28,8 +29,8 @@ use Rattle.yr_splits.specs.SplitRows.{flag, IsSplitRow, AreSplitRows}
 use Rattle.yr_splits.specs.Standing.{atoms_of}
 use Rattle.yr_splits.specs.Programs.{AreProgramRows}
 use Rattle.yr_splits.specs.Sizes.{piece_cost, row_cost, rows_cost, atom_cost, atoms_cost}
-use Rattle.yr_splits.specs.Filling.{IsStringRow, SayStrings, IsSound, HasStrings, HasPart, PutsSide, PutsSplits, IsLater, Filled, FilledPart}
-use Rattle.yr_splits.proofs.GrowLemmas.{grows_after, grows_same, kept_range, longer, side_grows, row_grows, no_rows, rows_grow, rows_more, begins_same}
+use Rattle.yr_splits.specs.Filling.{IsStringRow, SayStrings, IsSound, PutsSide, PutsSplits, IsLater, Filled, FilledPart}
+use Rattle.yr_splits.proofs.GrowLemmas.{grows_after, grows_same, kept_range, longer, side_grows, no_rows, rows_grow, rows_more}
 use Rattle.yr_splits.proofs.ProgramLemmas.{programs_stay}
 use Rattle.yr_splits.proofs.PlacedLemmas.{push_place, no_strings, part_begins, part_more, part_ends}
 use Rattle.yr_splits.proofs.LengthLemmas.{no_atoms, atoms_begin, atoms_more, atoms_end}
@@ -96,7 +97,7 @@ module _ (first second third last : Image) (p : Placed) (row : SplitRow)
       let moves : third.moves ≡ last.moves = sym (ap (λ (i : Image). i.moves) put) in
       let pool : third.pool ≡ last.pool = sym (ap (λ (i : Image). i.pool) put) in
       let same : record first { splits = third.splits ++ row ∷ []; sets = third.sets; programs = third.programs; moves = third.moves; pool = third.pool }
-          ≡ record first { splits = last.splits; sets = last.sets; programs = last.programs; moves = last.moves; pool = last.pool } =
+      ≡ record first { splits = last.splits; sets = last.sets; programs = last.programs; moves = last.moves; pool = last.pool } =
       λ i. record first { splits = splits i; sets = sets i; programs = programs i; moves = moves i; pool = pool i } in
       put ∙ ap (λ (i : Image). record i { splits = third.splits ++ row ∷ [] }) two ∙ same
 
@@ -244,7 +245,7 @@ variant_cost v splits string covers atoms pieces = at v.body covers atoms pieces
         → rows_cost (place_all string v.border splits) + atoms_cost (place_all string v.border splits) ≤ 64 * body_weight body
     at (variant.Literal bytes key fold) c a p =
         let each = split_costs splits string v.border (164 + length bytes)
-            (λ k d b. literal_split (get_or splits k d) bytes key fold (c.small k d b) (a k d b) (p k d b)) in
+        (λ k d b. literal_split (get_or splits k d) bytes key fold (c.small k d b) (a k d b) (p k d b)) in
         let few = few_times (length splits) (164 + length bytes) c.few in omega (arith, each, few)
     at (variant.Shape tree) c a p =
         let each = split_costs splits string v.border (212 + 48 * size_of tree) (λ k d b. shape_split (get_or splits k d) tree (c.small k d b) (a k d b)) in

@@ -1,5 +1,5 @@
 -- The strings of rules, put with their automaton: what an image has then, and keeps.
-use Rattle.std.proofs.Common.{◌≡◌, ℕ, zero, suc, ◌+◌, ◌*◌, ◌/◌, ◌%◌, ◌==◌, ◌<◌, ◌≤◌, nat_le, ◌&&◌, Bool, true, false, List, [], ◌∷◌, ◌++◌, length, map, All, Contains, Option, Some, None, slice_get, refl, sym, ap, ap₂, ◌∙◌, subst, arith}
+use Rattle.std.proofs.Common.{◌≡◌, ℕ, ◌+◌, ◌*◌, ◌/◌, ◌%◌, ◌==◌, ◌<◌, ◌≤◌, nat_le, ◌&&◌, Bool, true, false, List, [], ◌∷◌, ◌++◌, length, All, Contains, Option, Some, None, slice_get, refl, sym, ap, ap₂, ◌∙◌, subst, arith}
 use Rattle.std.proofs.lemmas.Bool.{le-leb}
 use Rattle.std.specs.List.{list_all}
 use Rattle.std.specs.Option.{option_map_or}
@@ -9,8 +9,6 @@ use Rattle.yr_base.specs.Bytes.{is_word_byte}
 use Rattle.yr_base.specs.Words.{name_limit}
 use Rattle.yr_syntax.specs.Forms.{Each, IsName}
 use Rattle.yr_rows.specs.Nodes.{edge_of}
-use Rattle.yr_rows.specs.declared.nodes.NodeRow.{NodeRow}
-use Rattle.yr_rows.specs.declared.nodes.EdgeRow.{EdgeRow}
 use Rattle.yr_rules.specs.Rules.{PlainString}
 use Rattle.yr_rules.specs.Weight.{total, string_weight}
 use Rattle.yr_rules.specs.Wellformed.{IsGoodString}
@@ -24,10 +22,9 @@ use Rattle.yr_image.specs.Encoding.{encoded_length}
 use Rattle.yr_tables.specs.Growing.{Grows}
 use Rattle.yr_splits.specs.Placed.{Placed, IsBelow}
 use Rattle.yr_splits.specs.SplitRows.{flag}
-use Rattle.yr_splits.specs.Standing.{atoms_of, AreStringRows, StandsFor}
-use Rattle.yr_splits.specs.Programs.{AreProgramRows}
+use Rattle.yr_splits.specs.Standing.{atoms_of, StandsFor}
 use Rattle.yr_splits.specs.Sizes.{total_length, atoms_cost}
-use Rattle.yr_splits.specs.Filling.{IsStringRow, IsSound, HasStrings, IsLater, Filled, PutsAutomaton, PutsStrings, KeepsStrings, rows_in}
+use Rattle.yr_splits.specs.Filling.{IsStringRow, IsSound, HasStrings, Filled, PutsAutomaton, PutsStrings, KeepsStrings, rows_in}
 use Rattle.yr_splits.proofs.GrowLemmas.{grows_after, grows_same, rows_grow}
 use Rattle.yr_splits.proofs.ProgramLemmas.{programs_stay}
 use Rattle.yr_splits.proofs.AutomatonLemmas.{few_nodes, few_edges, few_outputs}
@@ -73,7 +70,7 @@ automaton_put old new words rows no_nodes no_edges no_outputs put a = record { o
         let e : old.edges ++ rows.edges ≡ new.edges = sym (ap (λ (i : Image). i.edges) put) in
         let o : old.outputs ++ rows.outputs ≡ new.outputs = sym (ap (λ (i : Image). i.outputs) put) in
         let same : record old { nodes = old.nodes ++ rows.nodes; edges = old.edges ++ rows.edges; outputs = old.outputs ++ rows.outputs }
-            ≡ record old { nodes = new.nodes; edges = new.edges; outputs = new.outputs } =
+        ≡ record old { nodes = new.nodes; edges = new.edges; outputs = new.outputs } =
         λ i. record old { nodes = n i; edges = e i; outputs = o i } in
         put ∙ same
 
@@ -238,7 +235,7 @@ stays old new placed strings grows keeps h a =
 
 -- ---- what passes
 
-both : (a b : Bool) → a ≡ true → b ≡ true → (a && b) ≡ true
+pub both : (a b : Bool) → a ≡ true → b ≡ true → (a && b) ≡ true
 both a b e f = ap₂ (λ x y. x && y) e f
 
 all_pass : (test : ℕ → Bool) (xs : List ℕ) → Each (λ b. test b ≡ true) xs → list_all test xs ≡ true

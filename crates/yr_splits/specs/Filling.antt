@@ -1,21 +1,21 @@
 -- An image into which the strings of rules are put: a row for each string and each split, texts and programs for their sides.
-use Rattle.std.specs.Prelude.{◌≡◌, ℕ, ◌+◌, ◌*◌, ◌≤◌, Bool, true, List, ◌∷◌, [], ◌++◌, length, All, Some, slice_get}
+use Rattle.std.specs.Prelude.{◌≡◌, ℕ, ◌+◌, ◌*◌, ◌≤◌, Bool, true, List, ◌++◌, length, All, Some, slice_get}
 use Rattle.yr_pattern.specs.Variants.{PlainVariant}
-use Rattle.yr_rules.specs.Rules.{PlainString}
+use Rattle.yr_rules.specs.Rules.{PlainString, PlainRule, PlainRules}
 use Rattle.yr_rules.specs.Weight.{total, string_weight, variant_weight}
 use Rattle.yr_atoms.specs.Splits.{Piece, Split, piece_size}
-use Rattle.yr_image.specs.declared.rows.SplitRow.{SplitRow}
+use Rattle.yr_image.specs.declared.rows.RuleRow.{RuleRow}
 use Rattle.yr_image.specs.declared.rows.StringRow.{StringRow}
 use Rattle.yr_image.specs.Image.{Image, pool_text}
 use Rattle.yr_image.specs.Encoding.{encoded_length}
 use Rattle.yr_splits.specs.Placed.{Placed, StandForStrings, StandForPart}
-use Rattle.yr_splits.specs.SplitRows.{flag, IsSide, IsSplitRow, AreSplitRows}
+use Rattle.yr_splits.specs.SplitRows.{flag, IsSide, AreSplitRows}
 use Rattle.yr_splits.specs.Standing.{atoms_of}
 use Rattle.yr_tables.specs.Growing.{Grows}
 use Rattle.yr_splits.specs.Programs.{AreProgramRows}
 use Rattle.yr_splits.specs.Lengths.{HaveLongAtoms, HaveLongAtomsSoFar}
 use Rattle.yr_automaton.specs.Automaton.{Rows, IsAutomatonOf}
-use Rattle.yr_splits.specs.Sizes.{total_length, piece_cost, row_cost, rows_cost, atoms_cost}
+use Rattle.yr_splits.specs.Sizes.{total_length, piece_cost, rows_cost, atoms_cost}
 
 -- the row says the string
 pub record IsStringRow (image : Image) (string : PlainString) (row : StringRow) : Type 0 where
@@ -130,3 +130,9 @@ pub record KeepsStrings (old new : Image) : Type 0 where
   pub nodes : new.nodes ≡ old.nodes
   pub edges : new.edges ≡ old.edges
   pub outputs : new.outputs ≡ old.outputs
+
+-- the rows of rules have the ranges of their strings
+pub record SayRanges (image : Image) (rules : PlainRules) : Type 0 where
+  pub count : length image.rules ≡ length rules.rules
+  pub each : (i : ℕ) (rule : PlainRule) (row : RuleRow) → slice_get rules.rules i ≡ Some rule → slice_get image.rules i ≡ Some row
+      → (row.first_string ≡ rule.first_string) × (row.strings ≡ rule.string_count)

@@ -10,11 +10,7 @@ use yr_base::{Atom, NoMemory};
 use yr_tables::ImageDraft;
 
 /// Puts the automaton of atoms, of which each has the number of its split.
-pub fn put_automaton(
-    alloc: Global,
-    draft: &mut ImageDraft,
-    atoms: &[Atom],
-) -> Result<(), NoMemory>
+pub fn put_automaton(alloc: Global, draft: &mut ImageDraft, atoms: &[Atom]) -> Result<(), NoMemory>
     requires few { length atoms.now < 2 ^ 30 }
     requires no_nodes { draft.old.nodes ≡ [] }
     requires no_edges { draft.old.edges ≡ [] }

@@ -27,13 +27,13 @@ range_added : {X : Type 0} (xs ys : List X) → take (length ys) (drop (length x
 range_added xs ys = ap (λ l. take (length ys) l) (drop-append_seam xs ys) ∙ take-length ys
 
 -- in a list that begins as another one
-kept_range : {X : Type 0} (old new : List X) (first count : ℕ) → BeginsAs old new → first + count ≤ length old → take count (drop first new) ≡ take count (drop first old)
+pub kept_range : {X : Type 0} (old new : List X) (first count : ℕ) → BeginsAs old new → first + count ≤ length old → take count (drop first new) ≡ take count (drop first old)
 kept_range old new first count b h = ap (λ l. take count (drop first l)) b.1 ∙ range_left old b.0 first count h
 
-kept_at : {X : Type 0} (old new : List X) (k : ℕ) (x : X) → BeginsAs old new → slice_get old k ≡ Some x → slice_get new k ≡ Some x
+pub kept_at : {X : Type 0} (old new : List X) (k : ℕ) (x : X) → BeginsAs old new → slice_get old k ≡ Some x → slice_get new k ≡ Some x
 kept_at old new k x b h = ap (λ l. slice_get l k) b.1 ∙ get_left old b.0 k (slice_get_within old k x h) ∙ h
 
-longer : {X : Type 0} (old new : List X) → BeginsAs old new → length old ≤ length new
+pub longer : {X : Type 0} (old new : List X) → BeginsAs old new → length old ≤ length new
 longer old new b = let e : length new ≡ length old + length b.0 = ap length b.1 ∙ length-append old b.0 in omega (arith, e)
 
 begins_after : {X : Type 0} (a b c : List X) → BeginsAs a b → BeginsAs b c → BeginsAs a c
@@ -48,6 +48,15 @@ grows_after a b c p q = record {
   programs = begins_after a.programs b.programs c.programs p.programs q.programs;
   moves = begins_after a.moves b.moves c.moves p.moves q.moves;
   pool = begins_after a.pool b.pool c.pool p.pool q.pool;
+}
+
+-- nothing that other rows name has changed
+pub grows_same : (old new : Image) → new.sets ≡ old.sets → new.programs ≡ old.programs → new.moves ≡ old.moves → new.pool ≡ old.pool → Grows old new
+grows_same old new s p m q = record {
+  sets = begins_same old.sets new.sets s;
+  programs = begins_same old.programs new.programs p;
+  moves = begins_same old.moves new.moves m;
+  pool = begins_same old.pool new.pool q;
 }
 
 -- ---- programs

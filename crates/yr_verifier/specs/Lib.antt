@@ -1,1 +1,4 @@
 pub mod Verified
+pub mod Firsts
+pub mod Named
+pub mod Nodes

@@ -2,7 +2,17 @@
 #![tactic(auto)]
 
 mod adopting;
+mod code;
+mod header;
 mod image;
+mod naming;
+mod nodes;
+mod programs;
+mod reading;
+mod rows;
+mod sections;
+mod verifying;
 
 pub use adopting::adopt;
 pub use image::VerifiedImage;
+pub use verifying::verify;

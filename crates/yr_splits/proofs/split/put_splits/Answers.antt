@@ -1,4 +1,4 @@
-use Rattle.std.proofs.Common.{ap, sym, subst, List, map, take}
+use Rattle.std.proofs.Common.{sym, subst, List, map, take}
 use Rattle.yr_atoms.specs.Splits.{Split}
 use Rattle.yr_atoms.specs.Coded.{split_of, word}
 use Rattle.yr_splits.specs.Placed.{Placed, place, place_all}

@@ -1,4 +1,4 @@
-use Rattle.std.proofs.Common.{◌≡◌, ℕ, ◌+◌, ◌*◌, List, ◌++◌, length, map, refl, sym, subst, ap, ap₂, ◌∙◌}
+use Rattle.std.proofs.Common.{ℕ, ◌+◌, ◌*◌, List, ◌++◌, length, map, refl, subst, ap, ap₂, ◌∙◌}
 use Rattle.yr_pattern.specs.Variants.{PlainVariant, variant_of}
 use Rattle.yr_rules.specs.Rules.{string_of}
 use Rattle.yr_atoms.specs.Coded.{word}
@@ -20,8 +20,7 @@ returns c = λ start placed strings count f.
     let Q : List ℕ → Type 0 = λ name. HasText old middle name c.in_ok-place.place in
     let text = subst Q c.deref-name.ensures.value c.in_ok-place.ensures in
     let row : StringRow = record { name_place = c.in_ok-place.place; name_length = length c.deref-name.result.now; flags = c.from.result + 2 * c.from-2.result; rule = s.rule } in
-    let flags = ap₂ (λ (a b : ℕ). a + 2 * b) (c.from.ensures ∙ c.one_if.ensures) (c.from-2.ensures ∙ c.one_if-2.ensures) in
-    (
+    let flags = ap₂ (λ (a b : ℕ). a + 2 * b) (c.from.ensures ∙ c.one_if.ensures) (c.from-2.ensures ∙ c.one_if-2.ensures) in (
       r.0,
       filled_ends start old middle c.put_string.new.self (placed ++ r.0) strings (string_of s) atoms c.in_ok-place.place row text c.in_ok-put_string.ensures refl (ap length c.deref-name.ensures.value) flags refl part,
     )

@@ -1,4 +1,4 @@
-use Rattle.std.proofs.Common.{◌≡◌, ℕ, List, [], ◌∷◌, ◌++◌, length, map, take, sym, subst}
+use Rattle.std.proofs.Common.{List, [], ◌∷◌, ◌++◌, map, take, sym, subst}
 use Rattle.std.proofs.lemmas.List.{append_assoc}
 use Rattle.yr_pattern.specs.Variants.{PlainVariant, variant_of}
 use Rattle.yr_rules.specs.Wellformed.{IsGoodVariant}

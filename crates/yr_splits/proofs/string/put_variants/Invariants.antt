@@ -1,4 +1,4 @@
-use Rattle.std.proofs.Common.{◌≡◌, ℕ, List, [], ◌++◌, length, map, take}
+use Rattle.std.proofs.Common.{◌≡◌, List, [], ◌++◌, length, map, take}
 use Rattle.yr_pattern.specs.Variants.{variant_of}
 use Rattle.yr_rules.specs.Rules.{PlainString}
 use Rattle.yr_atoms.specs.Coded.{word}

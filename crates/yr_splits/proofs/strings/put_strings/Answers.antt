@@ -1,4 +1,4 @@
-use Rattle.std.proofs.Common.{List, map, sym, subst, ap}
+use Rattle.std.proofs.Common.{List, map, subst, ap}
 use Rattle.yr_rules.specs.Rules.{PlainString, string_of}
 use Rattle.yr_automaton.specs.Atoms.{words_of}
 use Rattle.yr_splits.specs.Filling.{Filled, PutsAutomaton}

@@ -1,0 +1,112 @@
+//! Reads and assembles regular expressions that are costly for their length. With no argument it prints how many moves
+//! they have; with one, how long reading and assembling take.
+#![tactic(auto)]
+
+mod texts;
+
+use anyhow::bail;
+use std::env;
+use std::time::CpuClock;
+use texts::{empty_groups, long_option, long_part, long_parts, nested};
+use yr_hex::read_hex;
+use yr_pattern::{fold, size, widen};
+use yr_program::assemble;
+use yr_regex::{Regex, read_regex};
+
+fn main(rt: HostRuntime) -> anyhow::Result<()> {
+    let timed = env::args(&rt)?.count() > 1;
+    let counts: &[usize] = if timed { &[400_000, 800_000] } else { &[1_000] };
+    for count in counts {
+        let alloc = rt.alloc();
+        show(
+            rt,
+            timed,
+            "one long part without a move",
+            &long_part(alloc, *count)?,
+        )?;
+        show(rt, timed, "empty groups", &empty_groups(alloc, *count / 2)?)?;
+        show(
+            rt,
+            timed,
+            "long parts in groups",
+            &long_parts(alloc, *count / 14)?,
+        )?;
+        show(rt, timed, "optional copies", &long_option(alloc, *count)?)?;
+    }
+    for (begins, ends, after) in [
+        ("(", ")", "{32767}"),
+        ("(a", ")", "{1000}"),
+        ("(a", ")*", "{500}"),
+        ("(a|", ")", "{500}"),
+        ("(a|", "|b)?", "{200}"),
+        ("(^\\b", "$)*", ""),
+    ] {
+        show(
+            rt,
+            timed,
+            begins,
+            &nested(rt.alloc(), begins, "a", ends, after)?,
+        )?;
+    }
+    show_forms(rt)
+}
+
+// The sizes of the deepest expression in its other forms, and of the deepest hex string.
+fn show_forms(rt: HostRuntime) -> anyhow::Result<()> {
+    let regex = read(rt, &nested(rt.alloc(), "(a", "a", ")", "")?)?;
+    let Ok(wide) = widen(rt.alloc(), &regex.pattern) else {
+        bail!("no memory");
+    };
+    let Ok(folded) = fold(rt.alloc(), &wide) else {
+        bail!("no memory");
+    };
+    let text = nested(rt.alloc(), "( 61 | 62 ", "63", ")", "")?;
+    if text.len() > 1_000 {
+        bail!("too long");
+    }
+    let hex = match read_hex(rt.alloc(), &text) {
+        Ok(pattern) => size(&pattern),
+        Err(_) => 0,
+    };
+    let (sizes, hex_bytes) = (size(&folded), text.len());
+    println!(rt; "wide in either case: {sizes}; hex string of {hex_bytes} bytes: {hex}")?;
+    Ok(())
+}
+
+fn read(rt: HostRuntime, text: &[u8]) -> anyhow::Result<Regex> {
+    if text.len() > 16_777_216 {
+        bail!("too long");
+    }
+    match read_regex(rt.alloc(), text, false, false) {
+        Ok(regex) => Ok(regex),
+        Err(fault) => bail!("{fault}"),
+    }
+}
+
+// The moves of an expression, read and assembled in both directions, or how long that takes.
+fn show(rt: HostRuntime, timed: bool, name: &str, text: &[u8]) -> anyhow::Result<()> {
+    let start = rt.thread_cpu_time()?.as_secs_f64();
+    let regex = read(rt, text)?;
+    let middle = rt.thread_cpu_time()?.as_secs_f64();
+    if size(&regex.pattern) > 65_535 {
+        bail!("too large");
+    }
+    let Ok(forwards) = assemble(rt.alloc(), &regex.pattern, false) else {
+        bail!("no memory");
+    };
+    let Ok(backwards) = assemble(rt.alloc(), &regex.pattern, true) else {
+        bail!("no memory");
+    };
+    let end = rt.thread_cpu_time()?.as_secs_f64();
+    let bytes = text.len();
+    let (moves, turned) = (forwards.moves.len() / 16, backwards.moves.len() / 16);
+    if timed {
+        let (reading, assembling) = ((middle - start) * 1000.0, (end - middle) * 500.0);
+        println!(rt;
+            "{name}: {bytes} bytes read in {reading:.1} ms, {moves} moves in {assembling:.1} ms"
+        )?;
+    } else {
+        println!(rt; "{name}: {bytes} bytes, {moves} moves, {turned} turned round")?;
+    }
+    Ok(())
+}

@@ -1,0 +1,6 @@
+mod CheckLemmas
+mod TruthLemmas
+mod ReportLemmas
+mod CompiledLemmas
+mod CodeLemmas
+mod BuildLemmas

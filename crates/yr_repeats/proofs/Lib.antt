@@ -1,0 +1,3 @@
+pub mod NewLemmas
+mod TableLemmas
+mod WindowLemmas

@@ -1,0 +1,4 @@
+pub mod Names
+pub mod Hashes
+pub mod Tables
+pub mod Windows
