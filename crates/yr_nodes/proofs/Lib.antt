@@ -1,6 +1,5 @@
 pub mod ReaderLemmas
-pub mod FixedLemmas
 pub mod LowLemmas
-pub mod ShapeLemmas
 pub mod NumberLemmas
 pub mod PartLemmas
+pub mod MadeLemmas

@@ -10,15 +10,15 @@ use Rattle.yr_uses.specs.Views.{earlier_rules}
 use Rattle.yr_nodes.specs.Nodes.{numbers_meant, rules_meant}
 
 pub range-last : (a n : ℕ) → range_with_len a (n + 1) ≡ range_with_len a n ++ (a + n) ∷ []
-range-last a n = ap (range_with_len a) (omega arith) ∙ more a n
+range-last a n = let same : n + 1 ≡ suc n = omega arith in ap (range_with_len a) same ∙ more a n
   where
     more : (b k : ℕ) → range_with_len b (suc k) ≡ range_with_len b k ++ (b + k) ∷ []
-    more b zero = ap (λ m. m ∷ []) (omega arith)
+    more b zero = let same : b ≡ b + zero = omega arith in ap (λ m. m ∷ []) same
     more b (suc k) = let same : b + 1 + k ≡ b + suc k = omega arith in ap (λ l. b ∷ l) (more (b + 1) k ∙ ap (λ m. range_with_len (b + 1) k ++ m ∷ []) same)
 
 meant-last : (items : List ItemTree) (k : ℕ) (ns : List Name) (n : Name)
     → numbers_meant items k (ns ++ n ∷ []) ≡ numbers_meant items k ns ++ (if is_meant items n then (k + length ns) ∷ [] else [])
-meant-last items k [] n = ap (λ m. if is_meant items n then m ∷ [] else []) (omega arith)
+meant-last items k [] n = let same : k ≡ k + zero = omega arith in ap (λ m. if is_meant items n then m ∷ [] else []) same
 meant-last items k (x ∷ ns) n =
     let same : k + 1 + length ns ≡ k + length (x ∷ ns) = omega arith in
     by (is_meant items x) (meant-last items (k + 1) ns n ∙ ap (λ m. numbers_meant items (k + 1) ns ++ (if is_meant items n then m ∷ [] else [])) same)
@@ -74,3 +74,10 @@ rules-step items all numbers i x b met new l h is t e m =
     ∙ ap (λ y. rules_meant items (earlier_rules (take i all ++ y ∷ []) (take i numbers ++ k ∷ []))) is
     ∙ ap (λ ns. rules_meant items (earlier_rules ns (take i numbers ++ k ∷ []))) (sym (take_more all i x h))
     ∙ ap (λ ks. rules_meant items (earlier_rules (take (i + 1) all) ks)) (sym (take_more numbers i 0 (omega arith)))
+
+-- what was chosen
+pub then-in : {A : Type 0} (b : Bool) (x y z : A) → b ≡ true → x ≡ y → x ≡ (if b then y else z)
+then-in b x y z e f = f ∙ sym (ap (λ c. if c then y else z) e)
+
+pub else-in : {A : Type 0} (b : Bool) (x y z : A) → b ≡ false → x ≡ z → x ≡ (if b then y else z)
+else-in b x y z e f = f ∙ sym (ap (λ c. if c then y else z) e)

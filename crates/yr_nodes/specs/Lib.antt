@@ -5,4 +5,3 @@ pub mod Answers
 pub mod Shapes
 pub mod Views
 pub mod Room
-pub mod Steps

@@ -1,7 +1,0 @@
-//! Rule files on which the checks are tried.
-#![tactic(auto)]
-
-#[cfg(test)]
-mod answers;
-#[cfg(test)]
-mod refused;
