@@ -1,0 +1,4 @@
+//! The machine that runs the conditions of an image.
+#![tactic(auto)]
+
+mod stack;
