@@ -1,4 +1,5 @@
 //! The machine that runs the conditions of an image.
 #![tactic(auto)]
 
+mod operators;
 mod stack;
