@@ -1,5 +1,8 @@
 //! The machine that runs the conditions of an image.
 #![tactic(auto)]
 
+mod open_loop;
 mod operators;
 mod stack;
+mod turning;
+mod turns;

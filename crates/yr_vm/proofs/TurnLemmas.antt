@@ -1,0 +1,32 @@
+-- The next of the turns that are left.
+use Rattle.std.proofs.Common.{◌≡◌, ℕ, zero, suc, ◌+◌, ◌-◌, ◌<◌, ◌≤◌, ℤ, pos, ◌+ℤ◌, List, [], ◌∷◌, length, take, drop, get_or, Option, Some, None, refl, sym, ap, ◌∙◌, arith}
+use Rattle.std.specs.Prelude.{slice_get}
+use Rattle.std.proofs.Math.Seq.{drop-cons}
+use Rattle.std.proofs.lemmas.Option.{slice_get_within, get_or_from_slice_get, slice_get-get_or}
+use Rattle.yr_values.specs.Values.{Number}
+use Rattle.yr_answer.specs.Turns.{Turn, Item, turns_from}
+
+pub numbers-next : (x : ℤ) (n : ℕ) → 0 < n → turns_from x n ≡ Item (Number x) ∷ turns_from (x +ℤ pos 1) (n - 1)
+numbers-next x zero lt = absurd (omega arith)
+numbers-next x (suc n) lt = let same : n ≡ suc n - 1 = omega arith in ap (λ k. Item (Number x) ∷ turns_from (x +ℤ pos 1) k) same
+
+module _ {A : Type 0} where
+  take-next : (xs : List A) (n : ℕ) (x : A) → 0 < n → take n (x ∷ xs) ≡ x ∷ take (n - 1) xs
+  take-next xs zero x lt = absurd (omega arith)
+  take-next xs (suc n) x lt = let same : n ≡ suc n - 1 = omega arith in ap (λ k. x ∷ take k xs) same
+
+  pub window-next : (xs : List A) (from n : ℕ) (x : A) → 0 < n → slice_get xs from ≡ Some x →
+      take n (drop from xs) ≡ x ∷ take (n - 1) (drop (from + 1) xs)
+  window-next xs from n x lt e =
+      let one : suc from ≡ from + 1 = omega arith in
+      ap (take n) (drop-cons xs from x (slice_get_within xs from x e))
+      ∙ ap (λ y. take n (y ∷ drop (suc from) xs)) (get_or_from_slice_get xs from x x e)
+      ∙ take-next (drop (suc from) xs) n x lt ∙ ap (λ k. x ∷ take (n - 1) (drop k xs)) one
+
+  pub window-none : (xs : List A) (from n : ℕ) → slice_get xs from ≡ None → take n (drop from xs) ≡ []
+  window-none [] zero zero e = refl
+  window-none [] zero (suc n) e = refl
+  window-none [] (suc from) zero e = refl
+  window-none [] (suc from) (suc n) e = refl
+  window-none (x ∷ xs) zero n e = cc
+  window-none (x ∷ xs) (suc from) n e = window-none xs from n e
