@@ -1,13 +1,27 @@
 //! An open loop.
 
-ghost use Rattle.std.specs.Prelude.{◌≡◌, ◌+◌, ◌<◌, ◌≤◌, ◌^◌, ◌≤ℤ◌, ◌+ℤ◌, pos, length, Some, None, slice_get, map};
+ghost use Rattle.std.specs.Prelude.{◌≡◌, ◌+◌, ◌<◌, ◌≤◌, ◌^◌, ◌≤ℤ◌, pos};
 ghost use Rattle.yr_vm.specs.Turns.{turns_left, last_number, last_item, last_row};
 
+use crate::turning::next_turn;
 use crate::turns::{Left, Present};
 use yr_values::Quantifier;
 
 /// The most items of a list.
 pub const MOST_ITEMS: usize = 128;
+
+/// The turns that a loop begins, at least one.
+#[derive(Clone, Copy)]
+pub struct Turns {
+    pub present: Present,
+    pub left: Left,
+    pub total: u64,
+    ghost counted: { turns_left left < total },
+    ghost small: { total ≤ 2 ^ 32 },
+    ghost numbers: { last_number left ≤ℤ pos 9223372036854775807 },
+    ghost listed: { last_item left ≤ 128 },
+    ghost rows: { last_row left ≤ 2 ^ 33 },
+}
 
 /// A loop that is open: its present turn and those left, and how many of those before held.
 #[derive(Clone, Copy)]
@@ -28,4 +42,70 @@ pub struct OpenLoop {
     ghost numbers: { last_number left ≤ℤ pos 9223372036854775807 },
     ghost listed: { last_item left ≤ 128 },
     ghost rows: { last_row left ≤ 2 ^ 33 },
+}
+
+impl OpenLoop {
+    ghost use Rattle.std.specs.Prelude.{◌≡◌, ◌+◌, List};
+    ghost use Rattle.yr_rows.specs.Nodes.{outputs_of};
+    ghost use Rattle.yr_values.specs.Values.{Value as PlainValue};
+    ghost use Rattle.yr_machine.specs.Machine.{OpenLoop as PlainLoop, next_turn};
+    ghost use Rattle.yr_vm.specs.Turns.{left_shown};
+    ghost use Rattle.yr_vm.specs.OpenLoops.{loop_shown, held_after, turned};
+
+    /// A loop that nothing has begun.
+    pub fn blank() -> OpenLoop {
+        OpenLoop {
+            place: 0,
+            end: 0,
+            quantifier: Quantifier::All,
+            present: Present::Undefined,
+            left: Left::Items { from: 0, count: 0 },
+            total: 1,
+            held: 0,
+            kept: 0,
+            items: [None; MOST_ITEMS],
+        }
+    }
+
+    /// Begins over these turns. The items stay.
+    #[inline]
+    pub fn begin(&mut self, place: u32, end: u32, quantifier: Quantifier, turns: Turns, kept: u32)
+        ensures items { self.new.items ≡ self.old.items }
+        ensures place { self.new.place ≡ place }
+        ensures end { self.new.end ≡ end }
+        ensures quantifier { self.new.quantifier ≡ quantifier }
+        ensures present { self.new.present ≡ turns.present }
+        ensures left { self.new.left ≡ turns.left }
+        ensures total { self.new.total ≡ turns.total }
+        ensures held { self.new.held ≡ 0 }
+        ensures kept { self.new.kept ≡ kept }
+    {
+        self.place = place;
+        self.end = end;
+        self.quantifier = quantifier;
+        self.present = turns.present;
+        self.left = turns.left;
+        self.total = turns.total;
+        self.held = 0;
+        self.kept = kept;
+    }
+
+    /// A turn has ended with this answer, and the next one begins. Where it was the last, how many turns held.
+    #[inline]
+    pub fn turn(&mut self, lists: &[u8], answer: bool) -> Option<u64>
+        ensures { (below : List PlainValue) (loops : List PlainLoop) →
+            let old = loop_shown (outputs_of lists.now) self.old in
+            next_turn old old.left (held_after answer old.held) below loops ≡ turned (outputs_of lists.now) self.old self.new result below loops }
+    {
+        let held = if answer { self.held + 1 } else { self.held };
+        match next_turn(lists, &self.items, self.left) {
+            Some((present, left)) => {
+                self.present = present;
+                self.left = left;
+                self.held = held;
+                None
+            }
+            None => Some(held),
+        }
+    }
 }
