@@ -1,51 +1,64 @@
--- A stack that is kept in an array: the first n items, from the last one down.
+-- A stack that is kept in an array: what the first n items show, from the last one down.
 use Rattle.std.proofs.Common.{◌≡◌, ℕ, zero, suc, ◌+◌, ◌-◌, ◌<◌, ◌≤◌, List, [], ◌∷◌, ◌++◌, length, map, take, drop, reverse, set, get_or, refl, sym, ap, ◌∙◌, subst, arith}
 use Rattle.std.proofs.Math.Seq.{take-suc, take-suc-set}
 use Rattle.std.proofs.lemmas.List.{map-append, reverse-append, length-reverse, length-map, length-take-le}
-use Rattle.yr_base.specs.declared.value.Value as lent_value
-use Rattle.yr_base.specs.declared.value.Value.TheVariants as lent
-use Rattle.yr_values.specs.Values.{Value, shown}
 
-abbrev Cell : Type 0
-Cell = lent_value.Value
+-- the items, what they show, and an item to name none by
+module _ {A B : Type 0} (shows : A → B) (blank : A) where
+  abbrev pub top : List A → ℕ → List B
+  top items n = reverse (map shows (take n items))
 
-abbrev pub top : List Cell → ℕ → List Value
-top items n = reverse (map shown (take n items))
+  pub top-more : (items : List A) (n : ℕ) → n < length items → top items (suc n) ≡ shows (get_or items n blank) ∷ top items n
+  top-more items n lt =
+      ap (λ xs. reverse (map shows xs)) (take-suc items n blank lt)
+      ∙ ap reverse (map-append shows (take n items) (get_or items n blank ∷ []))
+      ∙ reverse-append (map shows (take n items)) (shows (get_or items n blank) ∷ [])
 
-top-more : (items : List Cell) (n : ℕ) → n < length items → top items (suc n) ≡ shown (get_or items n lent.Undefined) ∷ top items n
-top-more items n lt =
-    ap (λ xs. reverse (map shown xs)) (take-suc items n lent.Undefined lt)
-    ∙ ap reverse (map-append shown (take n items) (get_or items n lent.Undefined ∷ []))
-    ∙ reverse-append (map shown (take n items)) (shown (get_or items n lent.Undefined) ∷ [])
+  top-set : (items : List A) (n : ℕ) (v : A) → n < length items → top (set items n v) (suc n) ≡ shows v ∷ top items n
+  top-set items n v lt =
+      ap (λ xs. reverse (map shows xs)) (take-suc-set items n v lt)
+      ∙ ap reverse (map-append shows (take n items) (v ∷ []))
+      ∙ reverse-append (map shows (take n items)) (shows v ∷ [])
 
-top-set : (items : List Cell) (n : ℕ) (v : Cell) → n < length items → top (set items n v) (suc n) ≡ shown v ∷ top items n
-top-set items n v lt =
-    ap (λ xs. reverse (map shown xs)) (take-suc-set items n v lt)
-    ∙ ap reverse (map-append shown (take n items) (v ∷ []))
-    ∙ reverse-append (map shown (take n items)) (shown v ∷ [])
+  drop-none : (xs : List B) → drop zero xs ≡ xs
+  drop-none [] = refl
+  drop-none (x ∷ xs) = refl
 
-top-drop : (items : List Cell) (taken n : ℕ) → taken + n ≤ length items → drop taken (top items (taken + n)) ≡ top items n
-top-drop items zero n le =
-    let same : zero + n ≡ n = omega arith in ap (λ m. drop zero (top items m)) same ∙ drop-none (top items n)
-  where
-    drop-none : (xs : List Value) → drop zero xs ≡ xs
-    drop-none [] = refl
-    drop-none (x ∷ xs) = refl
-top-drop items (suc taken) n le =
-    let same : suc taken + n ≡ suc (taken + n) = omega arith in
-    ap (λ m. drop (suc taken) (top items m)) same
-    ∙ ap (drop (suc taken)) (top-more items (taken + n) (omega (arith, le)))
-    ∙ top-drop items taken n (omega (arith, le))
+  top-drop : (items : List A) (taken n : ℕ) → taken + n ≤ length items → drop taken (top items (taken + n)) ≡ top items n
+  top-drop items zero n le =
+      let same : zero + n ≡ n = omega arith in ap (λ m. drop zero (top items m)) same ∙ drop-none (top items n)
+  top-drop items (suc taken) n le =
+      let same : suc taken + n ≡ suc (taken + n) = omega arith in
+      ap (λ m. drop (suc taken) (top items m)) same
+      ∙ ap (drop (suc taken)) (top-more items (taken + n) (omega (arith, le)))
+      ∙ top-drop items taken n (omega (arith, le))
 
-pub top-length : (items : List Cell) (n : ℕ) → n ≤ length items → length (top items n) ≡ n
-top-length items n le =
-    length-reverse (map shown (take n items)) ∙ length-map (take n items) shown ∙ length-take-le n items le
+  pub top-length : (items : List A) (n : ℕ) → n ≤ length items → length (top items n) ≡ n
+  top-length items n le =
+      length-reverse (map shows (take n items)) ∙ length-map (take n items) shows ∙ length-take-le n items le
 
-pub top-put : (items : List Cell) (taken n : ℕ) (v : Cell) → taken ≤ n → n ≤ length items → n - taken < length items →
-    top (set items (n - taken) v) (n - taken + 1) ≡ shown v ∷ drop taken (top items n)
-top-put items taken n v le fits lt =
-    let m = n - taken in
-    let one : m + 1 ≡ suc m = omega arith in
-    let whole : taken + m ≡ n = omega (arith, le) in
-    ap (λ k. top (set items m v) k) one ∙ top-set items m v lt
-    ∙ ap (λ xs. shown v ∷ xs) (sym (top-drop items taken m (omega (arith, whole, fits))) ∙ ap (λ k. drop taken (top items k)) whole)
+  pub top-below : (items : List A) (taken n : ℕ) → taken ≤ n → n ≤ length items → top items (n - taken) ≡ drop taken (top items n)
+  top-below items taken n le fits =
+      let whole : taken + (n - taken) ≡ n = omega (arith, le) in
+      sym (top-drop items taken (n - taken) (omega (arith, whole, fits))) ∙ ap (λ k. drop taken (top items k)) whole
+
+  pub top-put : (items : List A) (taken n : ℕ) (v : A) → taken ≤ n → n ≤ length items → n - taken < length items →
+      top (set items (n - taken) v) (n - taken + 1) ≡ shows v ∷ drop taken (top items n)
+  top-put items taken n v le fits lt =
+      let m = n - taken in
+      let one : m + 1 ≡ suc m = omega arith in
+      ap (λ k. top (set items m v) k) one ∙ top-set items m v lt ∙ ap (λ xs. shows v ∷ xs) (top-below items taken n le fits)
+
+  -- the last of n items, and the others
+  pub top-last : (items : List A) (n : ℕ) → 0 < n → n ≤ length items → top items n ≡ shows (get_or items (n - 1) blank) ∷ top items (n - 1)
+  top-last items zero lt le = absurd (omega arith)
+  top-last items (suc n) lt le =
+      let same : suc n - 1 ≡ n = omega arith in
+      top-more items n (omega (arith, le)) ∙ ap (λ k. shows (get_or items k blank) ∷ top items k) (sym same)
+
+  -- another last item
+  pub top-changed : (items : List A) (n : ℕ) (v : A) → 0 < n → n ≤ length items → top (set items (n - 1) v) n ≡ shows v ∷ top items (n - 1)
+  top-changed items zero v lt le = absurd (omega arith)
+  top-changed items (suc n) v lt le =
+      let same : suc n - 1 ≡ n = omega arith in
+      ap (λ k. top (set items k v) (suc n)) same ∙ top-set items n v (omega (arith, le)) ∙ ap (λ k. shows v ∷ top items k) (sym same)

@@ -1,11 +1,14 @@
 -- What the open loops that the code keeps stand for, over the list rows of the image.
-use Rattle.std.specs.Prelude.{ℕ, ◌+◌, Bool, if◌then◌else◌, List, ◌∷◌, map, take, drop, reverse, Option, Some, None, ℤ}
+use Rattle.std.specs.Prelude.{ℕ, ◌+◌, Bool, if◌then◌else◌, List, [], ◌∷◌, map, take, drop, reverse, Option, ℤ}
 use Rattle.yr_values.specs.Values.{Value, Flag}
-use Rattle.yr_values.specs.Quantifiers.{meets}
+use Rattle.yr_values.specs.declared.quantifier.Quantifier.{Quantifier}
 use Rattle.yr_answer.specs.Turns.{Turn}
-use Rattle.yr_machine.specs.Machine.{OpenLoop, Outcome, going, machine, give}
+use Rattle.yr_machine.specs.Machine.{OpenLoop, Outcome, stuck, going, machine, give, next_turn}
 use Rattle.yr_vm.specs.declared.open_loop.OpenLoop as kept
 use Rattle.yr_vm.specs.declared.open_loop.Turns as begun
+use Rattle.yr_vm.specs.declared.loops.Loops as loops
+use Rattle.yr_vm.specs.declared.turns.Turned.{Turned}
+use Rattle.yr_vm.specs.declared.turns.Turned.TheVariants as after
 use Rattle.yr_vm.specs.Turns.{present_shown, left_shown}
 
 abbrev pub loop_shown : (lists : List ℕ) → kept.OpenLoop → OpenLoop
@@ -28,8 +31,36 @@ turns_shown lists items turns = present_shown turns.present ∷ left_shown lists
 abbrev pub held_after : (answer : Bool) → ℕ → ℕ
 held_after answer held = if answer then held + 1 else held
 
--- what comes after a turn, as the code says it: how many turns held, where it was the last one
-abbrev pub turned : (lists : List ℕ) → (old new : kept.OpenLoop) → Option ℕ → List Value → List OpenLoop → Outcome
-turned lists old new None below loops = going (machine (old.place + 1) below (loop_shown lists new ∷ loops))
-turned lists old new (Some held) below loops =
-    give old.end loops (drop old.kept below) (Flag (meets old.quantifier held old.total))
+-- what comes after a turn, as the code says it, with the loop as it is then
+abbrev pub turned : Turned → List Value → OpenLoop → List OpenLoop → Outcome
+turned (after.Again place) below l loops = going (machine (place + 1) below (l ∷ loops))
+turned (after.Over end kept answer) below l loops = give end loops (drop kept below) (Flag answer)
+
+-- the open loops, the innermost first, and their present turns
+abbrev pub loops_shown : (lists : List ℕ) → loops.Loops → List OpenLoop
+loops_shown lists s = reverse (map (loop_shown lists) (take s.len s.open))
+
+abbrev pub presents_shown : loops.Loops → List Turn
+presents_shown s = reverse (map (λ (l : kept.OpenLoop). present_shown l.present) (take s.len s.open))
+
+-- a loop over turns that is just begun; it keeps no values on the stack
+abbrev pub begun_by : (lists : List ℕ) → (place end : ℕ) → Quantifier → begun.Turns → OpenLoop
+begun_by lists place end quantifier turns = record {
+  place = place;
+  end = end;
+  quantifier = quantifier;
+  present = present_shown turns.present;
+  left = left_shown lists [] turns.left;
+  total = turns.total;
+  held = 0;
+  kept = 0;
+}
+
+-- a turn of the innermost loop has ended with an answer
+abbrev pub turn_on : (answer : Bool) → List Value → List OpenLoop → Outcome
+turn_on answer below [] = stuck
+turn_on answer below (l ∷ loops) = next_turn l l.left (held_after answer l.held) below loops
+
+abbrev pub after_turn : Turned → List Value → List OpenLoop → Outcome
+after_turn (after.Again place) below loops = going (machine (place + 1) below loops)
+after_turn (after.Over end kept answer) below loops = give end loops (drop kept below) (Flag answer)

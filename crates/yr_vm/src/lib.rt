@@ -1,6 +1,7 @@
 //! The machine that runs the conditions of an image.
 #![tactic(auto)]
 
+mod loops;
 mod open_loop;
 mod operators;
 mod stack;

@@ -4,13 +4,13 @@ ghost use Rattle.std.specs.Prelude.{◌≡◌, ◌+◌, ◌<◌, ◌≤◌, ◌^
 ghost use Rattle.yr_vm.specs.Turns.{turns_left, last_number, last_item, last_row};
 
 use crate::turning::next_turn;
-use crate::turns::{Left, Present};
+use crate::turns::{Left, Present, Turned};
 use yr_values::Quantifier;
 
 /// The most items of a list.
 pub const MOST_ITEMS: usize = 128;
 
-/// The turns that a loop begins, at least one.
+/// The turns that a loop over a range or over strings begins, at least one.
 #[derive(Clone, Copy)]
 pub struct Turns {
     pub present: Present,
@@ -19,7 +19,7 @@ pub struct Turns {
     ghost counted: { turns_left left < total },
     ghost small: { total ≤ 2 ^ 32 },
     ghost numbers: { last_number left ≤ℤ pos 9223372036854775807 },
-    ghost listed: { last_item left ≤ 128 },
+    ghost unlisted: { last_item left ≡ 0 },
     ghost rows: { last_row left ≤ 2 ^ 33 },
 }
 
@@ -90,12 +90,13 @@ impl OpenLoop {
         self.kept = kept;
     }
 
-    /// A turn has ended with this answer, and the next one begins. Where it was the last, how many turns held.
+    /// A turn has ended with this answer. The next one begins, where one is left.
     #[inline]
-    pub fn turn(&mut self, lists: &[u8], answer: bool) -> Option<u64>
+    pub fn turn(&mut self, lists: &[u8], answer: bool) -> Turned
         ensures { (below : List PlainValue) (loops : List PlainLoop) →
             let old = loop_shown (outputs_of lists.now) self.old in
-            next_turn old old.left (held_after answer old.held) below loops ≡ turned (outputs_of lists.now) self.old self.new result below loops }
+            next_turn old old.left (held_after answer old.held) below loops
+            ≡ turned result below (loop_shown (outputs_of lists.now) self.new) loops }
     {
         let held = if answer { self.held + 1 } else { self.held };
         match next_turn(lists, &self.items, self.left) {
@@ -103,9 +104,13 @@ impl OpenLoop {
                 self.present = present;
                 self.left = left;
                 self.held = held;
-                None
+                Turned::Again { place: self.place }
             }
-            None => Some(held),
+            None => Turned::Over {
+                end: self.end,
+                kept: self.kept,
+                answer: self.quantifier.meets(held, self.total),
+            },
         }
     }
 }

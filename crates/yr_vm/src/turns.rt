@@ -18,3 +18,10 @@ pub enum Left {
     /// The members in list rows of the image.
     Members { row: u64, count: u64 },
 }
+
+/// What comes after a turn: the next one, of the loop at a place, or what follows the loop, with its answer.
+#[derive(Clone, Copy, Debug, PartialEq, Eq)]
+pub enum Turned {
+    Again { place: u32 },
+    Over { end: u32, kept: u32, answer: bool },
+}

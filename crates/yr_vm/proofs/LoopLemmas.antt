@@ -1,0 +1,55 @@
+-- The open loops that are kept in an array, the outermost first.
+use Rattle.std.proofs.Common.{◌≡◌, ℕ, zero, suc, ◌+◌, ◌-◌, ◌<◌, ◌≤◌, Bool, true, false, if◌then◌else◌, List, [], ◌∷◌, length, map, take, drop, reverse, set, get_or, Option, Some, None, refl, sym, ap, ◌∙◌, subst, arith, inl, inr, cond}
+use Rattle.std.specs.Prelude.{◌==◌}
+use Rattle.std.proofs.lemmas.Bool.{cases_lt}
+use Rattle.yr_answer.specs.Turns.{Turn, turn_at}
+use Rattle.yr_vm.specs.declared.open_loop.OpenLoop as kept
+use Rattle.yr_vm.specs.Turns.{present_shown}
+use Rattle.yr_vm.specs.declared.turns.Turned.{Turned}
+use Rattle.yr_vm.specs.declared.turns.Turned.TheVariants as after
+use Rattle.yr_values.specs.Values.{Value}
+use Rattle.yr_machine.specs.Machine.{OpenLoop, going, machine, next_turn}
+use Rattle.yr_vm.specs.OpenLoops.{loop_shown, held_after, turned, turn_on, after_turn}
+use Rattle.yr_vm.proofs.StackLemmas.{top, top-more, top-length, top-last, top-changed}
+use Rattle.std.proofs.lemmas.Bool.Decides.{nat_tests}
+
+module _ {A : Type 0} (shows : A → Turn) (blank : A) where
+  -- the loop of a number, counted from the outermost
+  pub turn-get : (items : List A) (n c : ℕ) → c < n → n ≤ length items → turn_at (top shows blank items n) c ≡ Some (shows (get_or items c blank))
+  turn-get items zero c lt le = absurd (omega arith)
+  turn-get items (suc n) c lt le =
+      let high = top-length shows blank items n (omega (arith, le)) in
+      let head = shows (get_or items n blank) in
+      let more = turn-get items n c in
+      ap (λ ts. turn_at ts c) (top-more shows blank items n (omega (arith, le)))
+      ∙ elim (cases_lt c n) [
+        | inl lower ↦ off (c == length (top shows blank items n)) (Some head) (turn_at (top shows blank items n) c) (differ c (length (top shows blank items n)) (omega (arith, lower, high))) ∙ more lower (omega (arith, le))
+        | inr upper ↦
+            let same : c ≡ n = omega (arith, lt, upper) in
+            on (c == length (top shows blank items n)) (Some head) (turn_at (top shows blank items n) c) (equal c (length (top shows blank items n)) (same ∙ sym high))
+            ∙ ap (λ k. Some (shows (get_or items k blank))) (sym same)
+      ]
+    where
+      on : (b : Bool) (x y : Option Turn) → b ≡ true → (if b then x else y) ≡ x
+      on b x y e = ap (λ t. if t then x else y) e
+      off : (b : Bool) (x y : Option Turn) → b ≡ false → (if b then x else y) ≡ y
+      off b x y e = ap (λ t. if t then x else y) e
+      differ : (a b : ℕ) → a < b → (a == b) ≡ false
+      differ a b h = grind (arith, nat_tests)
+      equal : (a b : ℕ) → a ≡ b → (a == b) ≡ true
+      equal a b h = grind (arith, nat_tests)
+
+-- where a turn of the innermost loop leads, with the others as they were
+pub turn-again : (lists : List ℕ) (items : List kept.OpenLoop) (n : ℕ) (blank new : kept.OpenLoop) (answer : Bool) (result : Turned) (place : ℕ) →
+    0 < n → n ≤ length items → result ≡ after.Again place →
+    ((below : List Value) (loops : List OpenLoop) → turn_on answer below (loop_shown lists (get_or items (n - 1) blank) ∷ loops)
+    ≡ turned result below (loop_shown lists new) loops) →
+    (below : List Value) → turn_on answer below (top (loop_shown lists) blank items n) ≡ after_turn result below (top (loop_shown lists) blank (set items (n - 1) new) n)
+turn-again lists items n blank new answer result place lt le again h below =
+    let shows = loop_shown lists in
+    let rest = top shows blank items (n - 1) in
+    ap (turn_on answer below) (top-last shows blank items n lt le)
+    ∙ h below rest
+    ∙ ap (λ t. turned t below (shows new) rest) again
+    ∙ ap (λ loops. going (machine (place + 1) below loops)) (sym (top-changed shows blank items n new lt le))
+    ∙ ap (λ t. after_turn t below (top shows blank (set items (n - 1) new) n)) (sym again)
