@@ -1,3 +1,4 @@
+pub mod AnswerLemmas
 pub mod Binding
 pub mod Complete
 pub mod Deep

@@ -9,6 +9,7 @@ pub mod Levels
 pub mod Lexemes
 pub mod Many
 pub mod Nests
+pub mod Parsing
 pub mod Reading
 pub mod Refusals
 pub mod Ruling

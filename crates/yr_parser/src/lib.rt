@@ -1,6 +1,7 @@
 //! Declarations and conditions, read from gathered tokens by the published grammar.
 #![tactic(auto)]
 
+mod answering;
 mod arithmetic;
 mod cursor;
 mod depth;
@@ -28,6 +29,7 @@ mod test;
 #[cfg(test)]
 mod tests;
 
+pub use answering::tokens_have_an_answer;
 pub use fault::ParseFault;
 pub use laws::{one_answer, small_conditions, unescaped_texts};
 pub use parsing::parse;

@@ -1,0 +1,28 @@
+//! What a search keeps from file to file.
+
+ghost use Rattle.std.specs.Prelude.{IfOk};
+ghost use Rattle.yr_verifier.specs.Verified.{bytes_of};
+
+use crate::lending::most_moves;
+use std::alloc::Global;
+use yr_base::NoMemory;
+use yr_moves::Marks;
+use yr_verifier::VerifiedImage;
+
+/// What the search and the machine of an image work with. It is made once, and serves any number of files.
+#[derive(Drop)]
+pub struct Scratch {
+    /// Room for the moves of each program of the image.
+    pub marks: Marks,
+}
+
+impl Scratch {
+    ghost use Rattle.yr_search.specs.Scratches.{IsScratchFor};
+
+    pub fn for_image(alloc: Global, image: &VerifiedImage<'_>) -> Result<Scratch, NoMemory>
+        ensures { IfOk result (IsScratchFor (bytes_of image.now)) }
+    {
+        let marks = Marks::for_moves(alloc, most_moves(&image.view()))?;
+        Ok(Scratch { marks })
+    }
+}
