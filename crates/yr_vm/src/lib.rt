@@ -1,9 +1,11 @@
 //! The machine that runs the conditions of an image.
 #![tactic(auto)]
 
+mod asked;
 mod loops;
 mod open_loop;
 mod operators;
 mod stack;
+mod strings;
 mod turning;
 mod turns;
