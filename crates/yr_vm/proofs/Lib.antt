@@ -1,3 +1,4 @@
 pub mod StackLemmas
 pub mod TurnLemmas
 pub mod LoopLemmas
+pub mod StringLemmas
