@@ -2,3 +2,4 @@ pub mod StackLemmas
 pub mod TurnLemmas
 pub mod LoopLemmas
 pub mod StringLemmas
+pub mod MemberLemmas

@@ -2,3 +2,5 @@ pub mod Given
 pub mod Turns
 pub mod OpenLoops
 pub mod Strings
+pub mod Members
+pub mod Earlier

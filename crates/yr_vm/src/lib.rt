@@ -3,6 +3,7 @@
 
 mod asked;
 mod loops;
+mod members;
 mod open_loop;
 mod operators;
 mod stack;
