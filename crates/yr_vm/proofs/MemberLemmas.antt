@@ -1,9 +1,11 @@
 -- Members that stand in list rows, and how many of them hold.
-use Rattle.std.proofs.Common.{◌≡◌, ℕ, zero, suc, ◌+◌, ◌<◌, ◌≤◌, Bool, true, false, cond, List, [], ◌∷◌, ◌++◌, length, map, take, drop, get_or, Option, Some, None, refl, sym, ap, ◌∙◌, subst, arith, eqb}
+use Rattle.std.proofs.Common.{◌≡◌, ℕ, zero, suc, ◌+◌, ◌<◌, ◌≤◌, Bool, true, false, cond, List, [], ◌∷◌, ◌++◌, length, map, take, drop, get_or, Option, Some, None, refl, sym, ap, ◌∙◌, subst, arith, eqb, length-append, if◌then◌else◌}
 use Rattle.std.specs.Prelude.{nat_le, nat_lt, ◌&&◌, ◌||◌, ◌==◌, slice_get, filter}
 use Rattle.std.specs.List.{list_all}
 use Rattle.std.proofs.lemmas.Bool.Decides.{nat_tests}
-use Rattle.std.proofs.lemmas.Option.{slice_get_within, slice_get-get_or}
+use Rattle.std.proofs.lemmas.Option.{slice_get_within, get_or_from_slice_get}
+use Rattle.std.proofs.lemmas.List.{take_more, map-append}
+use Rattle.std.proofs.lemmas.List.Elements.{filter-append}
 use Rattle.yr_machine.specs.Named.{all_below}
 use Rattle.yr_answer.specs.Turns.{found_in}
 use Rattle.yr_vm.specs.Members.{members_in, are_there}
@@ -16,8 +18,8 @@ other-true : (a b : Bool) → (a || b) ≡ true → a ≡ false → b ≡ true
 other-true true b e f = cc
 other-true false b e f = e
 
-some-rows : (k rows : ℕ) → k < rows → (rows == 0) ≡ false
-some-rows k rows lt = grind (arith, nat_tests)
+some-rows : (rows : ℕ) → 0 < rows → (rows == 0) ≡ false
+some-rows rows lt = grind (arith, nat_tests)
 
 fits-at : (a b : ℕ) → nat_le a b ≡ true → a ≤ b
 fits-at a b e = grind (arith, nat_tests)
@@ -49,19 +51,55 @@ all-get p [] k x a e = cc
 all-get p (y ∷ xs) zero x a e = let same : y ≡ x = cc in ap p (sym same) ∙ (both-true (p y) (list_all p xs) a).0
 all-get p (y ∷ xs) (suc k) x a e = all-get p xs k x (both-true (p y) (list_all p xs) a).1 e
 
-module _ (lists : List ℕ) (first rows bound k : ℕ) where
-  parts : are_there lists first rows bound ≡ true → k < rows → (first + rows ≤ length lists) × (all_below bound (members_in lists first rows) ≡ true)
+module _ (lists : List ℕ) (first rows bound : ℕ) where
+  parts : are_there lists first rows bound ≡ true → 0 < rows → (first + rows ≤ length lists) × (all_below bound (members_in lists first rows) ≡ true)
   parts e lt =
-      let b = other-true (rows == 0) (nat_le (first + rows) (length lists) && all_below bound (members_in lists first rows)) e (some-rows k rows lt) in
+      let b = other-true (rows == 0) (nat_le (first + rows) (length lists) && all_below bound (members_in lists first rows)) e (some-rows rows lt) in
       let h = both-true (nat_le (first + rows) (length lists)) (all_below bound (members_in lists first rows)) b in
       (fits-at (first + rows) (length lists) h.0, h.1)
 
-  -- member k stands in a row that is there
-  pub member-row : are_there lists first rows bound ≡ true → k < rows → first + k < length lists
-  member-row e lt = omega (arith, lt, (parts e lt).0)
+  -- their rows are there
+  pub rows-there : are_there lists first rows bound ≡ true → 0 < rows → first + rows ≤ length lists
+  rows-there e lt = (parts e lt).0
 
-  pub member-get : (m : ℕ) → k < rows → slice_get lists (first + k) ≡ Some m → slice_get (members_in lists first rows) k ≡ Some m
-  member-get m lt e = window-get lists first rows k lt ∙ e
+  pub member-below : (k m : ℕ) → are_there lists first rows bound ≡ true → k < rows → slice_get (members_in lists first rows) k ≡ Some m → m < bound
+  member-below k m e lt is =
+      less-at m bound (all-get (λ x. nat_lt x bound) (members_in lists first rows) k m (parts e (omega (arith, lt))).1 is)
 
-  pub member-below : (m : ℕ) → are_there lists first rows bound ≡ true → k < rows → slice_get lists (first + k) ≡ Some m → m < bound
-  member-below m e lt is = less-at m bound (all-get (λ x. nat_lt x bound) (members_in lists first rows) k m (parts e lt).1 (member-get m lt is))
+-- how many of the first members hold
+module _ (holds : ℕ → Bool) (members : List ℕ) where
+  abbrev pub found_to : ℕ → ℕ
+  found_to k = found_in (map holds (take k members))
+
+  found-one : (b : Bool) (n : ℕ) → n + length (filter (λ x. x) (b ∷ [])) ≡ (if b then n + 1 else n)
+  found-one true n = refl
+  found-one false n = omega arith
+
+  found-more : (k m : ℕ) → slice_get members k ≡ Some m → found_to (k + 1) ≡ (if holds m then found_to k + 1 else found_to k)
+  found-more k m e =
+      let inside = slice_get_within members k m e in
+      let more : take (k + 1) members ≡ take k members ++ m ∷ [] =
+      take_more members k m inside ∙ ap (λ x. take k members ++ x ∷ []) (get_or_from_slice_get members k m m e) in
+      ap (λ ms. found_in (map holds ms)) more
+      ∙ ap found_in (map-append holds (take k members) (m ∷ []))
+      ∙ ap length (filter-append (λ b. b) (map holds (take k members)) (holds m ∷ []))
+      ∙ length-append (filter (λ b. b) (map holds (take k members))) (filter (λ b. b) (holds m ∷ []))
+      ∙ found-one (holds m) (found_to k)
+
+  pub found-yes : (k m found : ℕ) → slice_get members k ≡ Some m → holds m ≡ true → found ≡ found_to k → found + 1 ≡ found_to (k + 1)
+  found-yes k m found e h f =
+      ap (λ n. n + 1) f ∙ sym (found-more k m e ∙ ap (λ b. if b then found_to k + 1 else found_to k) h)
+
+  pub found-no : (k m found : ℕ) → slice_get members k ≡ Some m → holds m ≡ false → found ≡ found_to k → found ≡ found_to (k + 1)
+  found-no k m found e h f = f ∙ sym (found-more k m e ∙ ap (λ b. if b then found_to k + 1 else found_to k) h)
+
+-- all of so many rows
+pub found-all : (holds : ℕ → Bool) (lists : List ℕ) (first rows : ℕ) →
+    found_to holds (members_in lists first rows) rows ≡ found_in (map holds (members_in lists first rows))
+found-all holds lists first rows = ap (λ ms. found_in (map holds ms)) (take-twice rows (drop first lists))
+  where
+    take-twice : (n : ℕ) (xs : List ℕ) → take n (take n xs) ≡ take n xs
+    take-twice zero [] = refl
+    take-twice zero (x ∷ xs) = refl
+    take-twice (suc n) [] = refl
+    take-twice (suc n) (x ∷ xs) = ap (λ ys. x ∷ ys) (take-twice n xs)
