@@ -62,3 +62,17 @@ module _ {A B : Type 0} (shows : A → B) (blank : A) where
   top-changed items (suc n) v lt le =
       let same : suc n - 1 ≡ n = omega arith in
       ap (λ k. top (set items k v) (suc n)) same ∙ top-set items n v (omega (arith, le)) ∙ ap (λ k. shows v ∷ top items k) (sym same)
+
+  take-none : (xs : List B) → take zero xs ≡ []
+  take-none [] = refl
+  take-none (x ∷ xs) = refl
+
+  -- the item below so many
+  pub top-under : (items : List A) (n depth : ℕ) → depth < n → n ≤ length items →
+      take 1 (drop depth (top items n)) ≡ shows (get_or items (n - 1 - depth) blank) ∷ []
+  top-under items n depth lt le =
+      let m = n - depth in
+      let same : m - 1 ≡ n - 1 - depth = omega arith in
+      ap (take 1) (sym (top-below items depth n (omega (arith, lt)) le) ∙ top-last items m (omega (arith, lt)) (omega (arith, le)))
+      ∙ ap (λ xs. shows (get_or items (m - 1) blank) ∷ xs) (take-none (top items (m - 1)))
+      ∙ ap (λ k. shows (get_or items k blank) ∷ []) same

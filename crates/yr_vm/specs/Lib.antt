@@ -4,3 +4,4 @@ pub mod OpenLoops
 pub mod Strings
 pub mod Members
 pub mod Earlier
+pub mod Sets

@@ -6,6 +6,8 @@ mod loops;
 mod members;
 mod open_loop;
 mod operators;
+mod quantity;
+mod sets;
 mod stack;
 mod strings;
 mod turning;

@@ -68,6 +68,16 @@ impl<'a> Stack<'a> {
         (&items[self.len - 2], &items[self.len - 1])
     }
 
+    /// The value below so many on top.
+    #[inline]
+    pub fn below(&self, depth: usize) -> &Value<'a>
+        requires { depth < length self.now }
+        ensures { take 1 (drop depth self.now) ≡ shown result.now ∷ [] }
+    {
+        let items = &self.items[..];
+        &items[self.len - 1 - depth]
+    }
+
     /// A value in place of so many on top.
     #[inline]
     pub fn put(&mut self, taken: usize, value: Value<'a>)
