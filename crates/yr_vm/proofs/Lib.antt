@@ -3,3 +3,4 @@ pub mod TurnLemmas
 pub mod LoopLemmas
 pub mod StringLemmas
 pub mod MemberLemmas
+pub mod SetLemmas
