@@ -9,4 +9,5 @@ pub mod Trace
 pub mod Store
 pub mod Notes
 pub mod Sink
+pub mod Streams
 pub mod Memory

@@ -3,6 +3,11 @@ use Rattle.std.specs.Prelude.{◌≡◌, ◌⊎◌, ◌+◌, ◌-◌, ◌^◌, �
 use Rattle.std.specs.Str.{bytes_eq}
 use Rattle.yr_base.specs.Store.{Files}
 use Rattle.yr_base.specs.Trace.{Entry}
+use Rattle.yr_base.specs.Causes.{one_more}
+use Rattle.yr_base.specs.declared.store.ReadAnswer.{ReadAnswer}
+use Rattle.yr_base.specs.declared.store.ReadAnswer.TheVariants as read
+use Rattle.yr_base.specs.declared.store.WriteAnswer.{WriteAnswer}
+use Rattle.yr_base.specs.declared.store.WriteAnswer.TheVariants as write
 use Rattle.yr_base.specs.declared.memory_store.StoredFile.{StoredFile}
 use Rattle.yr_base.specs.declared.memory_store.Call.{Call}
 
@@ -40,6 +45,29 @@ IsToFail failing calls = Contains failing (min (calls + 1) (2 ^ 64 - 1))
 -- a read of this name is to fail
 abbrev pub FailsHere : MemoryView → List ℕ → Type 0
 FailsHere s name = IsToFail s.failing (length s.trace) ⊎ (file_in s.files name ≡ None)
+
+-- the store after a call that did not fail, and after one that failed
+abbrev pub with_call : Bool → List ℕ → MemoryView → MemoryView
+with_call writes name s = record s { trace = s.trace ++ record { writes = writes; name = name; failed = false } ∷ [] }
+
+abbrev pub with_failure : Bool → List ℕ → MemoryView → MemoryView
+with_failure writes name s = record s {
+  trace = s.trace ++ record { writes = writes; name = name; failed = true } ∷ [];
+  faults = one_more s.faults;
+}
+
+-- the store after a read of a name that answered so
+abbrev pub after_read : MemoryView → List ℕ → ReadAnswer → MemoryView
+after_read s name read.Done = with_call false name s
+after_read s name read.Long = with_call false name s
+after_read s name read.Failed = with_failure false name s
+after_read s name read.NoMemory = s
+
+-- the store after a write of these bytes under a name that answered so
+abbrev pub after_write : MemoryView → List ℕ → List ℕ → WriteAnswer → MemoryView
+after_write s name bytes write.Done = with_call true name (record s { files = (name, bytes) ∷ s.files })
+after_write s name bytes write.Failed = with_failure true name s
+after_write s name bytes write.NoMemory = s
 
 -- the later of two answers, if there is one
 abbrev pub later : Option ℕ → Option ℕ → Option ℕ
@@ -80,5 +108,5 @@ abbrev pub after_put : SinkView → List ℕ → SinkView
 after_put s bytes = record s {
   written = s.written ++ take (put_takes s (length bytes)) bytes;
   puts = put_number s;
-  faults = if put_fails s (length bytes) then min (s.faults + 1) (2 ^ 64 - 1) else s.faults;
+  faults = if put_fails s (length bytes) then one_more s.faults else s.faults;
 }

@@ -1,5 +1,6 @@
 -- Words, and the reserved ones ('Writing YARA rules', the table of keywords).
-use Rattle.std.specs.Prelude.{ℕ, ◌≡◌, ◌∷◌, [], List, true, All, Contains, codes}
+use Rattle.std.specs.Prelude.{ℕ, ◌≡◌, ◌∷◌, [], List, Bool, true, false, ◌&&◌, All, Contains, codes}
+use Rattle.std.specs.List.{list_all}
 use Rattle.yr_base.specs.Bytes.{is_word_start, is_word_byte}
 
 abbrev pub reserved_words : List (List ℕ)
@@ -22,6 +23,11 @@ pub record IsWord (word : List ℕ) : Type 0 where
   pub whole : word ≡ first ∷ rest
   pub begins : is_word_start first ≡ true
   pub goes_on : All (λ b. is_word_byte b ≡ true) rest
+
+-- the same as a test
+abbrev pub is_word : List ℕ → Bool
+is_word [] = false
+is_word (b ∷ bs) = is_word_start b && list_all is_word_byte bs
 
 -- the most bytes of a word, and of a name after its sign
 abbrev pub name_limit : ℕ

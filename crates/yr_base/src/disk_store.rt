@@ -2,14 +2,13 @@
 
 ghost use Rattle.std.specs.Prelude.{◌≡◌, None};
 
+use crate::reading::read_whole;
+use crate::sink::PutAnswer;
 use crate::store::{ReadAnswer, Store, WriteAnswer};
+use crate::writing::write_whole;
 use std::alloc::Global;
 use std::fs::File;
-use std::io::{Read, Write};
 use std::rt::Files;
-
-/// How many bytes one read asks for at most.
-const BLOCK: usize = 16_384;
 
 /// The files of the machine. It counts every error, and tells neither files nor calls.
 #[derive(Drop)]
@@ -45,26 +44,7 @@ impl<R: Files + Drop> Store for DiskStore<R> {
             self.fault_count = self.fault_count.saturating_add(1);
             return ReadAnswer::Failed;
         };
-        let room = limit as usize + 1;
-        let mut buffer = [0u8; BLOCK];
-        while into.len() < room {
-            let most = (room - into.len()).min(BLOCK);
-            match file.read(&mut buffer[..most]) {
-                Ok(0) => return ReadAnswer::Done,
-                Ok(count) => {
-                    if into.extend_from_slice(&buffer[..count]).is_err() {
-                        into.clear();
-                        return ReadAnswer::NoMemory;
-                    }
-                }
-                Err(_) => {
-                    into.clear();
-                    self.fault_count = self.fault_count.saturating_add(1);
-                    return ReadAnswer::Failed;
-                }
-            }
-        }
-        ReadAnswer::Long
+        read_whole(&mut file, limit, into, &mut self.fault_count)
     }
 
     fn write_file(&mut self, alloc: Global, name: &str, bytes: &[u8]) -> WriteAnswer {
@@ -72,17 +52,10 @@ impl<R: Files + Drop> Store for DiskStore<R> {
             self.fault_count = self.fault_count.saturating_add(1);
             return WriteAnswer::Failed;
         };
-        let mut rest = bytes;
-        while !rest.is_empty() {
-            match file.write(rest) {
-                Ok(count) if count > 0 => rest = &rest[count..],
-                _ => {
-                    self.fault_count = self.fault_count.saturating_add(1);
-                    return WriteAnswer::Failed;
-                }
-            }
+        match write_whole(&mut file, bytes, &mut self.fault_count) {
+            PutAnswer::Done => WriteAnswer::Done,
+            PutAnswer::Failed => WriteAnswer::Failed,
         }
-        WriteAnswer::Done
     }
 }
 

@@ -67,7 +67,7 @@ impl MemorySink {
     }
 
     /// Makes a put fail, by its number from 1 on, after so many bytes.
-    pub fn fail_at(&mut self, call: u64, taken: u32) -> Result<(), NoMemory>
+    pub fn fail_at(&mut self, alloc: Global, call: u64, taken: u32) -> Result<(), NoMemory>
         ensures ok { OnOk result (self.new ≡ record self.old { failing = self.old.failing ++ (call, taken) ∷ [] }) }
         ensures err { OnErr result (self.new ≡ self.old) }
     {

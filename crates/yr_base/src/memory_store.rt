@@ -4,7 +4,7 @@ ghost use Rattle.std.specs.Prelude.{◌≡◌, ℕ, ◌+◌, ◌≤◌, ◌<◌,
 ghost use Rattle.std.specs.Option.{option_map};
 ghost use Rattle.yr_base.specs.Told.{told_more};
 ghost use Rattle.yr_base.specs.Store.{read_entries, Reads, write_entries, Writes};
-ghost use Rattle.yr_base.specs.Memory.{stored, entry_of, file_in, FailsHere, IsToFail};
+ghost use Rattle.yr_base.specs.Memory.{stored, entry_of, file_in, FailsHere, IsToFail, after_read, after_write};
 
 use crate::memory::NoMemory;
 use crate::store::{ReadAnswer, Store, WriteAnswer};
@@ -140,7 +140,7 @@ impl MemoryStore {
     }
 
     /// Makes a call fail, by the number that it will have in the list of calls, from 1 on.
-    pub fn fail_at(&mut self, call: u64) -> Result<(), NoMemory>
+    pub fn fail_at(&mut self, alloc: Global, call: u64) -> Result<(), NoMemory>
         ensures ok { OnOk result (self.new ≡ record self.old { failing = self.old.failing ++ call ∷ [] }) }
         ensures err { OnErr result (self.new ≡ self.old) }
     {
@@ -176,6 +176,7 @@ impl Store for MemoryStore {
         // It fails where it was asked to, or the name stands for no file, and nowhere else.
         ensures fails { result ≡ ReadAnswer.Failed → FailsHere self.old name.now }
         ensures only_there { FailsHere self.old name.now → (result ≡ ReadAnswer.Failed) ⊎ (result ≡ ReadAnswer.NoMemory) }
+        ensures after { self.new ≡ after_read self.old name.now result }
     {
         match find_unless_failing(&self.stored_files, &self.to_fail, self.calls.len(), name) {
             Some(bytes) => {
@@ -216,6 +217,7 @@ impl Store for MemoryStore {
         // It fails where it was asked to, and nowhere else.
         ensures fails { result ≡ WriteAnswer.Failed → IsToFail self.old.failing (length self.old.trace) }
         ensures only_there { IsToFail self.old.failing (length self.old.trace) → (result ≡ WriteAnswer.Failed) ⊎ (result ≡ WriteAnswer.NoMemory) }
+        ensures after { self.new ≡ after_write self.old name.now bytes.now result }
     {
         if is_to_fail(&self.to_fail, self.calls.len()) {
             if note(&mut self.calls, alloc, true, name, true).is_err() {

@@ -18,7 +18,7 @@ fn a_store_in_memory_answers_with_ample_memory(rt: HostRuntime) -> Result<(), Fa
     let mut store = MemoryStore::new(alloc)?;
     store.add(alloc, "a", b"old")?;
     store.add(alloc, "a", b"abc")?;
-    store.fail_at(3)?;
+    store.fail_at(alloc, 3)?;
     for (name, limit, answer, bytes) in [
         ("a", 3, ReadAnswer::Done, "abc"),
         ("a", 1, ReadAnswer::Long, "ab"),
@@ -39,8 +39,8 @@ fn a_store_in_memory_answers_with_ample_memory(rt: HostRuntime) -> Result<(), Fa
 #[test]
 fn a_sink_in_memory_answers_with_ample_memory(rt: HostRuntime) -> Result<(), Fail> {
     let mut sink = MemorySink::new(rt.alloc(), 40)?;
-    sink.fail_at(2, 9)?;
-    sink.fail_at(2, 1)?;
+    sink.fail_at(rt.alloc(), 2, 9)?;
+    sink.fail_at(rt.alloc(), 2, 1)?;
     assert_eq!(rt; sink.put(b"ab"), PutAnswer::Done);
     assert_eq!(rt; sink.put(b"cd"), PutAnswer::Failed);
     assert_eq!(rt;

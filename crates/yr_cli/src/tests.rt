@@ -170,11 +170,11 @@ fn a_fault_is_told(rt: HostRuntime) -> Result<(), Fail> {
             let long = vec![in alloc; 0u8; 268_435_457]?;
             store.add(alloc, "long", &long)?;
         }
-        store.fail_at(failing_read)?;
+        store.fail_at(alloc, failing_read)?;
         let mut out = MemorySink::new(alloc, 100)?;
-        out.fail_at(failing_put, 0)?;
+        out.fail_at(alloc, failing_put, 0)?;
         let mut err = MemorySink::new(alloc, 100)?;
-        err.fail_at(failing_message, 0)?;
+        err.fail_at(alloc, failing_message, 0)?;
         let words = words_of(alloc, line)?;
         let got = yara_main(alloc, &words, &mut store, &mut out, &mut err);
         assert_eq!(rt; got, status, "{line}");

@@ -1,5 +1,5 @@
 -- A variant of a string as plain data: a text as it is compared, or a pattern, and what must stand beside it.
-use Rattle.std.specs.Prelude.{ℕ, Bool, List, length}
+use Rattle.std.specs.Prelude.{◌≡◌, ℕ, ◌<◌, Bool, true, List, length}
 use Rattle.yr_base.specs.declared.border.Border.{Border}
 use Rattle.yr_pattern.specs.declared.variant.Variant.{Variant}
 use Rattle.yr_pattern.specs.declared.variant.VariantBody as code
@@ -34,3 +34,8 @@ body_size (Shape tree) = size_of tree
 -- the size of its body
 abbrev pub variant_size : PlainVariant → ℕ
 variant_size v = body_size v.body
+
+-- a literal has a byte, and where it folds its key is 0
+abbrev pub IsSoundBody : Body → Type 0
+IsSoundBody (Literal bytes key fold) = (0 < length bytes) × (fold ≡ true → key ≡ 0)
+IsSoundBody (Shape tree) = Unit {0}

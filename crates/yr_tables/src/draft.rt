@@ -1,10 +1,12 @@
 //! Images that are being made.
 
-use crate::filling::{add_moves, add_sets, place};
+use crate::filling::{add_edges, add_moves, add_nodes, add_outputs, add_sets, place};
 use std::alloc::Global;
 use std::marker::Model;
 use yr_base::NoMemory;
-use yr_image::{CodeRow, NoteRow, ProgramRow, RuleRow, SplitRow, StringRow, Tables};
+use yr_image::{
+    CodeRow, EdgeRow, NodeRow, NoteRow, ProgramRow, RuleRow, SplitRow, StringRow, Tables,
+};
 use yr_program::Program;
 
 /// An image that is being made. Contracts see the image that its tables show so far. After a refusal they say nothing of it.
@@ -24,6 +26,7 @@ impl Model for ImageDraft {
 impl ImageDraft {
     ghost use Rattle.std.specs.Prelude.{◌≡◌, ◌++◌, ◌∷◌, [], length, IfOk, OnOk};
     ghost use Rattle.yr_image.specs.Image.{shown};
+    ghost use Rattle.yr_rows.specs.Nodes.{nodes_of, edges_of, outputs_of};
     ghost use Rattle.yr_program.specs.Programs.{program_moves, program_sets};
     ghost use Rattle.yr_tables.specs.Added.{empty_image, HasText, with_program};
 
@@ -142,5 +145,47 @@ impl ImageDraft {
     {
         self.tables.splits.push(row)?;
         Ok(())
+    }
+
+    /// Adds a node of the automaton.
+    pub fn put_node(&mut self, row: NodeRow) -> Result<(), NoMemory>
+        ensures { OnOk result (self.new ≡ record self.old { nodes = self.old.nodes ++ row ∷ [] }) }
+    {
+        self.tables.nodes.push(row)?;
+        Ok(())
+    }
+
+    /// Adds an edge of the automaton.
+    pub fn put_edge(&mut self, row: EdgeRow) -> Result<(), NoMemory>
+        ensures { OnOk result (self.new ≡ record self.old { edges = self.old.edges ++ row ∷ [] }) }
+    {
+        self.tables.edges.push(row)?;
+        Ok(())
+    }
+
+    /// Adds an output of the automaton.
+    pub fn put_output(&mut self, split: u32) -> Result<(), NoMemory>
+        ensures { OnOk result (self.new ≡ record self.old { outputs = self.old.outputs ++ split ∷ [] }) }
+    {
+        self.tables.outputs.push(split)?;
+        Ok(())
+    }
+
+    /// Adds the nodes, edges and outputs that bytes hold.
+    pub fn put_automaton(
+        &mut self,
+        nodes: &[u8],
+        edges: &[u8],
+        outputs: &[u8],
+    ) -> Result<(), NoMemory>
+        ensures { OnOk result (self.new ≡ record self.old {
+          nodes = self.old.nodes ++ nodes_of nodes.now;
+          edges = self.old.edges ++ edges_of edges.now;
+          outputs = self.old.outputs ++ outputs_of outputs.now;
+        }) }
+    {
+        add_nodes(&mut self.tables.nodes, nodes)?;
+        add_edges(&mut self.tables.edges, edges)?;
+        add_outputs(&mut self.tables.outputs, outputs)
     }
 }

@@ -2,10 +2,11 @@
 
 ghost use Rattle.std.specs.Prelude.{◌≡◌, ◌++◌, ◌<◌, length, Some, slice_get, IfOk, OnOk};
 ghost use Rattle.yr_rows.specs.Moves.{moves_in, sets_in};
+ghost use Rattle.yr_rows.specs.Nodes.{nodes_of, edges_of, outputs_of};
 ghost use Rattle.yr_tables.specs.Growing.{move_behind, moves_behind};
 
 use yr_base::NoMemory;
-use yr_rows::{MoveRow, count_moves, count_sets};
+use yr_rows::{EdgeRow, MoveRow, NodeRow, count_moves, count_sets, edge_at, node_at, output_at};
 
 /// A place in four bytes. An image never has so many rows that its places need more.
 pub fn place(n: usize) -> Result<u32, NoMemory>
@@ -52,6 +53,36 @@ pub fn add_sets(into: &mut Vec<[u8; 32]>, sets: &[u8]) -> Result<(), NoMemory>
 {
     for k in 0..count_sets(sets) {
         into.push(set_at(sets, k))?;
+    }
+    Ok(())
+}
+
+/// Adds the nodes that bytes hold.
+pub fn add_nodes(into: &mut Vec<NodeRow>, bytes: &[u8]) -> Result<(), NoMemory>
+    ensures { OnOk result (into.new.items ≡ into.old.items ++ nodes_of bytes.now) }
+{
+    for k in 0..bytes.len() / 24 {
+        into.push(node_at(bytes, k))?;
+    }
+    Ok(())
+}
+
+/// Adds the edges that bytes hold.
+pub fn add_edges(into: &mut Vec<EdgeRow>, bytes: &[u8]) -> Result<(), NoMemory>
+    ensures { OnOk result (into.new.items ≡ into.old.items ++ edges_of bytes.now) }
+{
+    for k in 0..bytes.len() / 8 {
+        into.push(edge_at(bytes, k))?;
+    }
+    Ok(())
+}
+
+/// Adds the outputs that bytes hold.
+pub fn add_outputs(into: &mut Vec<u32>, bytes: &[u8]) -> Result<(), NoMemory>
+    ensures { OnOk result (into.new.items ≡ into.old.items ++ outputs_of bytes.now) }
+{
+    for k in 0..bytes.len() / 4 {
+        into.push(output_at(bytes, k))?;
     }
     Ok(())
 }

@@ -1,10 +1,13 @@
 //! Laws of images that grow.
 
-ghost use Rattle.std.specs.Prelude.{◌≡◌, ◌≤◌, ◌+◌, ℕ, List, length};
+ghost use Rattle.std.specs.Prelude.{◌≡◌, ◌≤◌, ◌+◌, ℕ, Bool, List, length};
+ghost use Rattle.yr_pattern.specs.Tree.{Tree};
+ghost use Rattle.yr_rows.specs.Moves.{AreWellformedMoves};
 ghost use Rattle.yr_rows.specs.declared.moves.MoveRow.{MoveRow};
 ghost use Rattle.yr_image.specs.Image.{Image, pool_text};
 ghost use Rattle.yr_tables.specs.Growing.{Grows};
 ghost use Rattle.yr_tables.specs.Added.{HasText, with_program};
+ghost use Rattle.yr_tables.specs.Programs.{AcceptSpans, IsProgramOf};
 
 /// What is added lets texts and programs grow.
 pub fn added_grows()
@@ -20,4 +23,12 @@ pub fn texts_stay()
         → place + count ≤ length new.pool }
     ensures reads { (old new : Image) → Grows old new → (place count : ℕ) → place + count ≤ length old.pool
         → pool_text new place count ≡ pool_text old place count }
+{}
+
+/// A program that is added accepts what its moves accept by themselves, and stays so.
+pub fn programs_stay()
+    ensures added { (old : Image) (backwards : Bool) (tree : Tree) (moves : List MoveRow) (sets : List (List ℕ)) → AreWellformedMoves moves sets
+        → AcceptSpans backwards moves sets tree → IsProgramOf (with_program old moves sets) backwards tree (length old.programs) }
+    ensures stays { (old new : Image) (backwards : Bool) (tree : Tree) (number : ℕ) → Grows old new
+        → IsProgramOf old backwards tree number → IsProgramOf new backwards tree number }
 {}

@@ -1,3 +1,3 @@
 mod AgreeLemmas
 mod RangeLemmas
-mod SoundLemmas
+pub mod SoundLemmas

@@ -1,8 +1,8 @@
 -- The variants of a text string ('Writing YARA rules', 'Text strings'): its forms under each key, in base64, or as they are.
-use Rattle.std.specs.Prelude.{ℕ, ◌≡◌, ◌+◌, ◌-◌, ◌<◌, Bool, true, false, ◌||◌, nat_lt, if◌then◌else◌, List, [], ◌∷◌, ◌++◌, length, map, Option, Some, None, is_some}
+use Rattle.std.specs.Prelude.{ℕ, ◌+◌, ◌-◌, Bool, true, false, ◌||◌, nat_lt, if◌then◌else◌, List, [], ◌∷◌, ◌++◌, length, map, Option, Some, None, is_some}
 use Rattle.std.specs.List.{flat_map, range_with_len}
 use Rattle.yr_base.specs.declared.border.Border.{Border}
-use Rattle.yr_pattern.specs.Variants.{PlainVariant, Body, Literal, Shape}
+use Rattle.yr_pattern.specs.Variants.{PlainVariant, Literal, IsSoundBody}
 use Rattle.yr_text.specs.declared.modifiers.Modifiers.{Modifiers}
 use Rattle.yr_text.specs.Forms.{PlainForm, forms_of, widened}
 use Rattle.yr_text.specs.Encoding.{encoded}
@@ -54,10 +54,6 @@ abbrev pub variants_of : List ℕ → Modifiers → List PlainVariant
 variants_of bytes m =
     literals m (forms_of bytes m) ++ encodings m.base64 false (forms_of bytes m) ++ encodings m.base64wide true (forms_of bytes m)
 
--- a literal has a byte, and where it folds its key is 0
-abbrev pub IsSoundBody : Body → Type 0
-IsSoundBody (Literal bytes key fold) = (0 < length bytes) × (fold ≡ true → key ≡ 0)
-IsSoundBody (Shape tree) = Unit {0}
-
+-- its body is sound
 abbrev pub IsSound : PlainVariant → Type 0
 IsSound v = IsSoundBody v.body
