@@ -5,3 +5,4 @@ pub mod Strings
 pub mod Members
 pub mod Earlier
 pub mod Sets
+pub mod Worlds

@@ -4,11 +4,14 @@
 mod asked;
 mod loops;
 mod members;
+mod names;
 mod open_loop;
 mod operators;
+mod programs;
 mod quantity;
 mod sets;
 mod stack;
 mod strings;
 mod turning;
 mod turns;
+mod world;
