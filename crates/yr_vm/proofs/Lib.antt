@@ -4,3 +4,4 @@ pub mod LoopLemmas
 pub mod StringLemmas
 pub mod MemberLemmas
 pub mod SetLemmas
+pub mod ProgramLemmas

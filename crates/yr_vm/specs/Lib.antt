@@ -6,3 +6,4 @@ pub mod Members
 pub mod Earlier
 pub mod Sets
 pub mod Worlds
+pub mod Taken

@@ -1,20 +1,14 @@
 -- The strings that instructions ask about, and what is asked of their matches.
-use Rattle.std.specs.Prelude.{◌≡◌, ℕ, ◌<◌, Bool, true, ℤ, List, [], Option, Some, None}
-use Rattle.std.specs.Option.{option_map_or}
+use Rattle.std.specs.Prelude.{◌≡◌, ℕ, ◌<◌, Bool, true, List, Some}
 use Rattle.yr_answer.specs.MatchList.{Match}
-use Rattle.yr_answer.specs.Lookups.{list_at, is_at, is_within}
+use Rattle.yr_answer.specs.Lookups.{is_at, is_within}
 use Rattle.yr_answer.specs.Turns.{Turn, current_of}
 use Rattle.yr_image.specs.declared.instruction.NamedString.{NamedString}
 use Rattle.yr_image.specs.declared.instruction.NamedString.TheVariants.{Known, Current}
 use Rattle.yr_vm.specs.declared.asked.Asked.{Asked}
 use Rattle.yr_vm.specs.declared.asked.Asked.TheVariants.{Anywhere, At, Within}
 
--- the matches of the string that an instruction names, in these turns of the open loops
-abbrev pub named_list : (lists : List (List Match)) → List Turn → NamedString → List Match
-named_list lists turns (Known c) = list_at lists c
-named_list lists turns (Current c) = option_map_or (list_at lists) (current_of turns c) []
-
--- it is one of so many strings
+-- the string that an instruction names, in these turns of the open loops, is one of so many
 abbrev pub IsNamed : (count : ℕ) → List Turn → NamedString → Type 0
 IsNamed count turns (Known c) = c < count
 IsNamed count turns (Current c) = (k : ℕ) × (current_of turns c ≡ Some k) × (k < count)

@@ -2,6 +2,7 @@
 #![tactic(auto)]
 
 mod asked;
+mod giving;
 mod loops;
 mod members;
 mod names;

@@ -31,6 +31,25 @@ fn text_of<'v>(v: &'v Value<'_>) -> Option<&'v [u8]>
     }
 }
 
+// Whether program c accepts anything in a text.
+fn accepts<L: Ledger>(
+    image: &ImageView<'_>,
+    c: u32,
+    text: &[u8],
+    marks: &mut Marks,
+    steps: &mut Steps<L>,
+) -> bool
+    requires wellformed { IsWellformed (shown_bytes image.now) }
+    requires program { c < length (image_of image.now).programs }
+    requires room { HasRoom (image_of image.now) marks.old.room }
+    ensures value { (context : Context) → context.image ≡ image_of image.now → KnowsPrograms context → result ≡ context.occurs c text.now }
+    ensures room { marks.new.room ≡ marks.old.room }
+    ensures least_cost { steps.old ≤ steps.new }
+    ensures most_cost { steps.new ≤ steps.old + moves_count (image_of image.now) c * (length text.now + 1) }
+{
+    occurs(program(image, c), text, marks, steps)
+}
+
 /// Whether program c accepts anything in the text on top.
 pub fn test_program<L: Ledger>(
     stack: &mut Stack<'_>,
@@ -50,9 +69,11 @@ pub fn test_program<L: Ledger>(
     ensures most_cost { (x : ℕ) (v : PlainValue) → take 1 stack.old ≡ v ∷ [] → text_length v ≤ x →
         steps.new ≤ steps.old + moves_count (image_of image.now) c * (x + 1) }
 {
-    let value = match text_of(stack.one()) {
-        Some(text) => Value::Flag(occurs(program(image, c), text, marks, steps)),
-        None => Value::Undefined,
-    };
-    stack.put(1, value);
+    match text_of(stack.one()) {
+        Some(text) => {
+            let found = accepts(image, c, text, marks, steps);
+            stack.put(1, Value::Flag(found));
+        }
+        None => stack.put(1, Value::Undefined),
+    }
 }

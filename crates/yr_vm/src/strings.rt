@@ -1,13 +1,13 @@
 //! Instructions that ask about the matches of one string.
 
-ghost use Rattle.std.specs.Prelude.{◌≡◌, ◌≤◌, ◌<◌, pos, length};
+ghost use Rattle.std.specs.Prelude.{◌≡◌, ◌≤◌, ◌<◌, Bool, List, pos, length};
 ghost use Rattle.yr_values.specs.Values.{shown, Number as PlainNumber};
 ghost use Rattle.yr_values.specs.Operators.{of_one};
 ghost use Rattle.yr_answer.specs.Lookups.{list_at, anywhere, at_offset, in_range, presence_of, count_of, count_in_of, offset_of, length_of};
-ghost use Rattle.yr_machine.specs.Operations.{on_one, on_two};
+ghost use Rattle.yr_machine.specs.Operations.{Context, on_one, on_two, matches_in};
 ghost use Rattle.yr_vm.specs.Given.{given};
 ghost use Rattle.yr_vm.specs.OpenLoops.{presents_shown};
-ghost use Rattle.yr_vm.specs.Strings.{named_list, IsNamed};
+ghost use Rattle.yr_vm.specs.Strings.{IsNamed};
 
 use crate::asked::{Asked, asked_at, asked_within, has_asked};
 use crate::loops::Loops;
@@ -17,11 +17,12 @@ use yr_base::Value;
 use yr_image::NamedString;
 use yr_matches::Matches;
 
-/// The number of a string. It is `Current` where it is the present one of a loop.
+/// The number of a string that an instruction names.
 #[inline]
 pub fn string_of(matches: &Matches, loops: &Loops, named: NamedString) -> u32
     requires { IsNamed (length matches.now.lists) (presents_shown loops.now) named }
-    ensures list { named_list matches.now.lists (presents_shown loops.now) named ≡ list_at matches.now.lists result }
+    ensures list { (context : Context) (truths : List Bool) → context.lists ≡ matches.now.lists →
+        matches_in context truths (presents_shown loops.now) named ≡ list_at matches.now.lists result }
     ensures there { result < length matches.now.lists }
 {
     match named {

@@ -1,0 +1,31 @@
+-- How many values an instruction takes that gives one.
+use Rattle.std.specs.Prelude.{ℕ, List, [], ◌∷◌, length, ◌<◌}
+use Rattle.yr_image.specs.declared.instruction.Instruction.{Instruction}
+use Rattle.yr_image.specs.Image.{Image}
+use Rattle.yr_answer.specs.Turns.{Turn, Item, Member}
+use Rattle.yr_machine.specs.declared.block.Want.{Want}
+use Rattle.yr_machine.specs.Roles.{Role, ending, plain, skip, starts, turn, role}
+
+abbrev pub wants_of : Role → List Want
+wants_of ending = []
+wants_of (plain wants gives) = wants
+wants_of (skip end) = []
+wants_of (starts wants keeps strings end) = []
+wants_of (turn place) = []
+
+abbrev pub taken_by : Image → Instruction → ℕ
+taken_by image instruction = length (wants_of (role image instruction))
+
+-- it takes values and gives one
+abbrev pub IsPlain : Role → Type 0
+IsPlain ending = ⊥
+IsPlain (plain wants gives) = Unit {0}
+IsPlain (skip end) = ⊥
+IsPlain (starts wants keeps strings end) = ⊥
+IsPlain (turn place) = ⊥
+
+-- the strings that are present in loops are among so many
+abbrev pub AreAmong : (count : ℕ) → List Turn → Type 0
+AreAmong count [] = Unit {0}
+AreAmong count (Item v ∷ turns) = AreAmong count turns
+AreAmong count (Member k ∷ turns) = (k < count) × AreAmong count turns
