@@ -7,3 +7,4 @@ pub mod Earlier
 pub mod Sets
 pub mod Worlds
 pub mod Taken
+pub mod Fields

@@ -1,6 +1,7 @@
 -- How many values an instruction takes that gives one.
 use Rattle.std.specs.Prelude.{ℕ, List, [], ◌∷◌, length, ◌<◌}
 use Rattle.yr_image.specs.declared.instruction.Instruction.{Instruction}
+use Rattle.yr_image.specs.declared.instruction.Instruction.TheVariants as i
 use Rattle.yr_image.specs.Image.{Image}
 use Rattle.yr_answer.specs.Turns.{Turn, Item, Member}
 use Rattle.yr_machine.specs.declared.block.Want.{Want}
@@ -16,13 +17,14 @@ wants_of (turn place) = []
 abbrev pub taken_by : Image → Instruction → ℕ
 taken_by image instruction = length (wants_of (role image instruction))
 
--- it takes values and gives one
-abbrev pub IsPlain : Role → Type 0
-IsPlain ending = ⊥
-IsPlain (plain wants gives) = Unit {0}
-IsPlain (skip end) = ⊥
-IsPlain (starts wants keeps strings end) = ⊥
-IsPlain (turn place) = ⊥
+-- it takes values and gives one, and it is no test by a program, which also takes steps
+abbrev pub IsOther : Instruction → Type 0
+IsOther (i.Matches c) = ⊥
+IsOther instruction = Unit {0}
+
+abbrev pub IsGiven : Role → Instruction → Type 0
+IsGiven (plain wants gives) instruction = IsOther instruction
+IsGiven r instruction = ⊥
 
 -- the strings that are present in loops are among so many
 abbrev pub AreAmong : (count : ℕ) → List Turn → Type 0

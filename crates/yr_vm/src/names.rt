@@ -1,6 +1,6 @@
 //! Instructions that give what they name.
 
-ghost use Rattle.std.specs.Prelude.{◌≡◌, ◌+◌, ◌<◌, ◌≤◌, ℤ, pos, true, length, map, slice_get};
+ghost use Rattle.std.specs.Prelude.{◌≡◌, ◌+◌, ◌<◌, ◌≤◌, ◌^◌, true, false, length, map, slice_get};
 ghost use Rattle.yr_values.specs.Values.{shown, Number as PlainNumber, Flag as PlainFlag, Text as PlainText};
 ghost use Rattle.yr_values.specs.Operators.{of_one, on_number, on_numbers};
 ghost use Rattle.yr_answer.specs.Truths.{truths_shown};
@@ -8,7 +8,11 @@ ghost use Rattle.yr_answer.specs.Turns.{variable_of};
 ghost use Rattle.yr_image.specs.Views.{image_of};
 ghost use Rattle.yr_image.specs.Image.{in_pool, pool_text};
 ghost use Rattle.yr_machine.specs.Operations.{on_one, on_two};
+ghost use Rattle.std.specs.Option.{option_map_or};
+ghost use Rattle.yr_values.specs.Comparisons.{flag_eq};
+ghost use Rattle.yr_image.specs.ModuleTable.{field_row_of, call_row_of};
 ghost use Rattle.yr_vm.specs.Given.{given};
+ghost use Rattle.yr_vm.specs.Fields.{field_takes, field_value};
 ghost use Rattle.yr_vm.specs.Earlier.{truth_in};
 ghost use Rattle.yr_vm.specs.OpenLoops.{presents_shown};
 
@@ -68,17 +72,32 @@ pub fn variable(stack: &mut Stack<'_>, loops: &Loops, c: u32)
     stack.put(0, value);
 }
 
-/// A module's field that takes no index.
-pub fn field<'a, M: Modules>(stack: &mut Stack<'a>, modules: &'a M, id: u16)
-    requires { length stack.old < 4096 }
-    ensures { stack.new ≡ given 0 (λ operands. M.field_of modules.now id (pos 0)) stack.old }
+// An id as modules take it.
+#[inline]
+fn id_of(id: u32) -> u16
+    requires { id < 2 ^ 16 }
+    ensures { result ≡ id }
 {
-    let value = modules.field(id, 0);
-    stack.put(0, value);
+    id as u16
 }
 
-/// A module's field at an index.
-pub fn field_at<'a, M: Modules>(stack: &mut Stack<'a>, modules: &'a M, id: u16)
+/// A module's field, which takes an index or not.
+pub fn field<'a, M: Modules>(stack: &mut Stack<'a>, modules: &'a M, indexed: bool, id: u32)
+    requires row { option_map_or (λ row. flag_eq indexed row.0) (field_row_of id) false ≡ true }
+    requires there { field_takes indexed ≤ length stack.old }
+    requires room { length stack.old < 4096 + field_takes indexed }
+    ensures { stack.new ≡ given (field_takes indexed) (field_value (M.field_of modules.now) indexed id) stack.old }
+{
+    if indexed {
+        field_at(stack, modules, id_of(id));
+    } else {
+        let value = modules.field(id_of(id), 0);
+        stack.put(0, value);
+    }
+}
+
+// A module's field at an index.
+fn field_at<'a, M: Modules>(stack: &mut Stack<'a>, modules: &'a M, id: u16)
     requires { 1 ≤ length stack.old }
     ensures { stack.new ≡ given 1 (on_one (on_number (M.field_of modules.now id))) stack.old }
 {
@@ -90,12 +109,13 @@ pub fn field_at<'a, M: Modules>(stack: &mut Stack<'a>, modules: &'a M, id: u16)
 }
 
 /// A module's call.
-pub fn call<'a, M: Modules>(stack: &mut Stack<'a>, modules: &'a M, id: u16)
-    requires { 2 ≤ length stack.old }
+pub fn call<'a, M: Modules>(stack: &mut Stack<'a>, modules: &'a M, id: u32)
+    requires row { option_map_or (λ k. true) (call_row_of id) false ≡ true }
+    requires there { 2 ≤ length stack.old }
     ensures { stack.new ≡ given 2 (on_two (on_numbers (M.call_of modules.now id))) stack.old }
 {
     let value = match stack.two() {
-        (Value::Number(from), Value::Number(size)) => modules.call(id, *from, *size),
+        (Value::Number(from), Value::Number(size)) => modules.call(id_of(id), *from, *size),
         _ => Value::Undefined,
     };
     stack.put(2, value);
