@@ -5,3 +5,4 @@ pub mod StringLemmas
 pub mod MemberLemmas
 pub mod SetLemmas
 pub mod ProgramLemmas
+pub mod NameLemmas
