@@ -8,3 +8,4 @@ pub mod Sets
 pub mod Worlds
 pub mod Taken
 pub mod Fields
+pub mod States

@@ -78,6 +78,15 @@ impl<'a> Stack<'a> {
         &items[self.len - 1 - depth]
     }
 
+    /// Takes so many values away.
+    #[inline]
+    pub fn shorten(&mut self, taken: usize)
+        requires { taken ≤ length self.old }
+        ensures { self.new ≡ drop taken self.old }
+    {
+        self.len -= taken;
+    }
+
     /// A value in place of so many on top.
     #[inline]
     pub fn put(&mut self, taken: usize, value: Value<'a>)
