@@ -6,3 +6,4 @@ pub mod MemberLemmas
 pub mod SetLemmas
 pub mod ProgramLemmas
 pub mod NameLemmas
+pub mod OperandLemmas

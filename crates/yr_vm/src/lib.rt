@@ -3,6 +3,7 @@
 
 mod asked;
 mod giving;
+mod looping;
 mod loops;
 mod members;
 mod names;

@@ -17,14 +17,14 @@ pub struct Stack<'a> {
 }
 
 impl<'a> Model for Stack<'a> {
-    ghost use Rattle.std.specs.Prelude.{List, ◌≤◌, map, take, reverse};
+    ghost use Rattle.std.specs.Prelude.{List, ◌≡◌, ◌≤◌, length, map, take, reverse};
     ghost use Rattle.yr_values.specs.Values.{Value as PlainValue, shown};
 
     ghost Value = { List PlainValue };
 
     ghost view = { λ s. reverse (map shown (take s.len s.items)) };
 
-    ghost invariant = { λ s. s.len ≤ 4096 };
+    ghost invariant = { λ s. (s.len ≤ 4096) × (length s.items ≡ 4096) };
 }
 
 impl<'a> Stack<'a> {
