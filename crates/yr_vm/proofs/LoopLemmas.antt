@@ -51,5 +51,5 @@ turn-again lists items n blank new answer result place lt le again h below =
     ap (turn_on answer below) (top-last shows blank items n lt le)
     ∙ h below rest
     ∙ ap (λ t. turned t below (shows new) rest) again
-    ∙ ap (λ loops. going (machine (place + 1) below loops)) (sym (top-changed shows blank items n new lt le))
+    ∙ ap (λ loops. going (machine place below loops)) (sym (top-changed shows blank items n new lt le))
     ∙ ap (λ t. after_turn t below (top shows blank (set items (n - 1) new) n)) (sym again)

@@ -1,9 +1,14 @@
 -- Operands that are on the stack.
 use Rattle.std.proofs.Common.{◌≡◌, ℕ, zero, suc, ◌+◌, ◌<◌, ◌≤◌, Bool, true, false, cond, List, [], ◌∷◌, length, take, drop, refl, sym, ap, ◌∙◌, subst, arith}
-use Rattle.yr_values.specs.Values.{Value}
+use Rattle.std.specs.Prelude.{◌==◌}
+use Rattle.yr_base.specs.declared.value.Kind.TheVariants as kind
+use Rattle.yr_values.specs.Values.{Value, holds}
 use Rattle.yr_machine.specs.declared.block.Want.{Want}
-use Rattle.yr_machine.specs.Machine.{Outcome, Taken, missing, took, and_took, take_values, with_operands, suits}
+use Rattle.yr_machine.specs.declared.block.Want.TheVariants as want
+use Rattle.yr_machine.specs.Machine.{OpenLoop, Outcome, stuck, flag_of, end_turn, next_turn, Taken, missing, took, and_took, take_values, with_operands, suits}
 use Rattle.yr_machine.specs.Counts.{NotStuck}
+use Rattle.yr_vm.specs.OpenLoops.{turn_on, held_after}
+use Rattle.yr_vm.specs.States.{turn_outcome}
 
 abbrev pub IsThere : Taken → Type 0
 IsThere missing = ⊥
@@ -42,3 +47,23 @@ module _ (wants : List Want) (stack : List Value) (go : List Value → List Valu
 
   pub operands-known : with_operands (take_values wants stack) go ≡ go (take (length wants) stack) (drop (length wants) stack)
   operands-known = ap (λ t. with_operands t go) (known wants stack (is-there (take_values wants stack) go n)).0
+
+-- a turn that can end ends that of the innermost loop
+turn-known : (c : ℕ) (answer : Bool) (below : List Value) (loops : List OpenLoop) → NotStuck (end_turn c answer below loops) →
+    end_turn c answer below loops ≡ turn_on answer below loops
+turn-known c answer below [] n = absurd n
+turn-known c answer below (l ∷ loops) n = by (l.place == c) n
+  where
+    next : Outcome
+    next = next_turn l l.left (held_after answer l.held) below loops
+    by : (b : Bool) → NotStuck (cond b next stuck) → cond b next stuck ≡ next
+    by true h = refl
+    by false h = absurd h
+
+pub turn-outcome : (c : ℕ) (stack : List Value) (loops : List OpenLoop) (v : Value) → take 1 stack ≡ v ∷ [] → NotStuck (turn_outcome c stack loops) →
+    turn_outcome c stack loops ≡ turn_on (holds v) (drop 1 stack) loops
+turn-outcome c stack loops v e n =
+    let go = λ (operands below : List Value). end_turn c (flag_of operands) below loops in
+    let same : turn_outcome c stack loops ≡ end_turn c (holds v) (drop 1 stack) loops =
+    operands-known (want.Of kind.Flag ∷ []) stack go n ∙ ap (λ operands. end_turn c (flag_of operands) (drop 1 stack) loops) e in
+    same ∙ turn-known c (holds v) (drop 1 stack) loops (subst NotStuck same n)

@@ -1,7 +1,11 @@
 -- A stack that is kept in an array: what the first n items show, from the last one down.
-use Rattle.std.proofs.Common.{◌≡◌, ℕ, zero, suc, ◌+◌, ◌-◌, ◌<◌, ◌≤◌, List, [], ◌∷◌, ◌++◌, length, map, take, drop, reverse, set, get_or, refl, sym, ap, ◌∙◌, subst, arith}
+use Rattle.std.proofs.Common.{◌≡◌, ℕ, zero, suc, ◌+◌, ◌-◌, ◌<◌, ◌≤◌, List, [], ◌∷◌, ◌++◌, length, map, take, drop, reverse, set, get_or, refl, sym, ap, ◌∙◌, subst, arith, inl, inr, ◌⊎◌}
+use Rattle.std.proofs.lemmas.Bool.{cases_lt}
 use Rattle.std.proofs.Math.Seq.{take-suc, take-suc-set}
 use Rattle.std.proofs.lemmas.List.{map-append, reverse-append, length-reverse, length-map, length-take-le}
+
+cases_le : (a b : ℕ) → (a ≤ b) ⊎ (b < a)
+cases_le a b = elim (cases_lt b a) [ inl lt ↦ inr lt | inr le ↦ inl le ]
 
 -- the items, what they show, and an item to name none by
 module _ {A B : Type 0} (shows : A → B) (blank : A) where
@@ -76,3 +80,24 @@ module _ {A B : Type 0} (shows : A → B) (blank : A) where
       ap (take 1) (sym (top-below items depth n (omega (arith, lt)) le) ∙ top-last items m (omega (arith, lt)) (omega (arith, le)))
       ∙ ap (λ xs. shows (get_or items (m - 1) blank) ∷ xs) (take-none (top items (m - 1)))
       ∙ ap (λ k. shows (get_or items k blank) ∷ []) same
+
+  drop-all : (n : ℕ) (xs : List B) → length xs ≤ n → drop n xs ≡ []
+  drop-all zero [] le = refl
+  drop-all zero (x ∷ xs) le = absurd (omega arith)
+  drop-all (suc n) [] le = refl
+  drop-all (suc n) (x ∷ xs) le = drop-all n xs (omega (arith, le))
+
+  take-zero : (xs : List A) → take zero xs ≡ []
+  take-zero [] = refl
+  take-zero (x ∷ xs) = refl
+
+  -- what stays when so many are taken away, or all of fewer
+  pub top-shorter : (items : List A) (taken n : ℕ) → n ≤ length items → top items (n - taken) ≡ drop taken (top items n)
+  top-shorter items taken n fits =
+      elim (cases_le taken n) [
+        | inl le ↦ top-below items taken n le fits
+        | inr lt ↦
+            let none : n - taken ≡ zero = omega (arith, lt) in
+            ap (top items) none ∙ ap (λ xs. reverse (map shows xs)) (take-zero items)
+            ∙ sym (drop-all taken (top items n) (omega (arith, lt, top-length items n fits)))
+      ]

@@ -1,11 +1,13 @@
 -- What the open loops that the code keeps stand for, over the list rows of the image.
-use Rattle.std.specs.Prelude.{ℕ, ◌+◌, Bool, if◌then◌else◌, List, [], ◌∷◌, map, take, drop, reverse, Option, ℤ}
+use Rattle.std.specs.Prelude.{ℕ, ◌+◌, Bool, if◌then◌else◌, List, [], ◌∷◌, map, take, drop, reverse, Option, Some, None}
 use Rattle.yr_values.specs.Values.{Value, Flag}
 use Rattle.yr_values.specs.declared.quantifier.Quantifier.{Quantifier}
 use Rattle.yr_answer.specs.Turns.{Turn}
 use Rattle.yr_machine.specs.Machine.{OpenLoop, Outcome, stuck, going, machine, give, next_turn}
 use Rattle.yr_vm.specs.declared.open_loop.OpenLoop as kept
-use Rattle.yr_vm.specs.declared.open_loop.Turns as begun
+use Rattle.yr_vm.specs.declared.open_loop.Turns as some
+use Rattle.yr_vm.specs.declared.beginning.Begun.{Begun}
+use Rattle.yr_vm.specs.declared.beginning.Begun.TheVariants as begun
 use Rattle.yr_vm.specs.declared.loops.Loops as loops
 use Rattle.yr_vm.specs.declared.turns.Turned.{Turned}
 use Rattle.yr_vm.specs.declared.turns.Turned.TheVariants as after
@@ -23,9 +25,11 @@ loop_shown lists l = record {
   kept = l.kept;
 }
 
--- the turns that a loop with these items begins
-abbrev pub turns_shown : (lists : List ℕ) → (items : List (Option ℤ)) → begun.Turns → List Turn
-turns_shown lists items turns = present_shown turns.present ∷ left_shown lists items turns.left
+-- the turns that a loop over a range or over strings begins: unknown, none, or some
+abbrev pub begun_shown : (lists : List ℕ) → Begun → Option (List Turn)
+begun_shown lists begun.Unknown = None
+begun_shown lists begun.Nothing = Some []
+begun_shown lists (begun.Some turns) = Some (present_shown turns.present ∷ left_shown lists [] turns.left)
 
 -- how many turns hold after one with this answer
 abbrev pub held_after : (answer : Bool) → ℕ → ℕ
@@ -33,7 +37,7 @@ held_after answer held = if answer then held + 1 else held
 
 -- what comes after a turn, as the code says it, with the loop as it is then
 abbrev pub turned : Turned → List Value → OpenLoop → List OpenLoop → Outcome
-turned (after.Again place) below l loops = going (machine (place + 1) below (l ∷ loops))
+turned (after.Again place) below l loops = going (machine place below (l ∷ loops))
 turned (after.Over end kept answer) below l loops = give end loops (drop kept below) (Flag answer)
 
 -- the open loops, the innermost first, and their present turns
@@ -44,7 +48,7 @@ abbrev pub presents_shown : loops.Loops → List Turn
 presents_shown s = reverse (map (λ (l : kept.OpenLoop). present_shown l.present) (take s.len s.open))
 
 -- a loop over turns that is just begun; it keeps no values on the stack
-abbrev pub begun_by : (lists : List ℕ) → (place end : ℕ) → Quantifier → begun.Turns → OpenLoop
+abbrev pub begun_by : (lists : List ℕ) → (place end : ℕ) → Quantifier → some.Turns → OpenLoop
 begun_by lists place end quantifier turns = record {
   place = place;
   end = end;
@@ -62,5 +66,5 @@ turn_on answer below [] = stuck
 turn_on answer below (l ∷ loops) = next_turn l l.left (held_after answer l.held) below loops
 
 abbrev pub after_turn : Turned → List Value → List OpenLoop → Outcome
-after_turn (after.Again place) below loops = going (machine (place + 1) below loops)
+after_turn (after.Again place) below loops = going (machine place below loops)
 after_turn (after.Over end kept answer) below loops = give end loops (drop kept below) (Flag answer)

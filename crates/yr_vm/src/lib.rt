@@ -2,6 +2,7 @@
 #![tactic(auto)]
 
 mod asked;
+mod beginning;
 mod giving;
 mod looping;
 mod loops;

@@ -13,7 +13,7 @@ use yr_base::Value;
 /// A turn has ended with the flag on top. The next one begins, or the loop ends.
 #[inline]
 pub fn end_turn(state: &mut State<'_>, lists: &[u8], c: u32) -> Option<bool>
-    requires goes { NotStuck (turn_outcome c state.old.stack (loops_shown (outputs_of lists.now) state.old.loops)) }
+    requires { NotStuck (turn_outcome c state.old.stack (loops_shown (outputs_of lists.now) state.old.loops)) }
     ensures { outcome_of (outputs_of lists.now) result state.new
         ≡ turn_outcome c state.old.stack (loops_shown (outputs_of lists.now) state.old.loops) }
 {
@@ -21,10 +21,11 @@ pub fn end_turn(state: &mut State<'_>, lists: &[u8], c: u32) -> Option<bool>
     match state.loops.turn(lists, answer) {
         Turned::Again { place } => {
             state.stack.shorten(1);
-            state.place = place + 1;
+            state.place = place;
         }
         Turned::Over { end, kept, answer } => {
-            state.stack.put(kept as usize + 1, Value::Flag(answer));
+            state.stack.shorten(kept as usize + 1);
+            state.stack.put(0, Value::Flag(answer));
             state.place = end;
         }
     }

@@ -18,7 +18,7 @@ pub struct Loops {
 }
 
 impl Loops {
-    ghost use Rattle.std.specs.Prelude.{◌≡◌, ◌+◌, ◌<◌, ℕ, List, [], ◌∷◌, length, Some};
+    ghost use Rattle.std.specs.Prelude.{◌≡◌, ◌+◌, ◌<◌, ◌^◌, ℕ, List, [], ◌∷◌, length, Some};
     ghost use Rattle.yr_rows.specs.Nodes.{outputs_of};
     ghost use Rattle.yr_values.specs.Values.{Value as PlainValue};
     ghost use Rattle.yr_answer.specs.Turns.{turn_at};
@@ -57,7 +57,8 @@ impl Loops {
     /// Opens a loop inside the others.
     #[inline]
     pub fn open(&mut self, place: u32, end: u32, quantifier: Quantifier, turns: Turns)
-        requires { length (presents_shown self.old) < 4 }
+        requires near { place + 1 < 2 ^ 32 }
+        requires few { length (presents_shown self.old) < 4 }
         ensures { (lists : List ℕ) → loops_shown lists self.new ≡ begun_by lists place end quantifier turns ∷ loops_shown lists self.old }
     {
         let open = &mut self.open[..];

@@ -17,10 +17,10 @@ pub struct Turns {
     pub left: Left,
     pub total: u64,
     ghost counted: { turns_left left < total },
-    ghost small: { total ≤ 2 ^ 32 },
+    ghost small: { total ≤ 2 ^ 62 },
     ghost numbers: { last_number left ≤ℤ pos 9223372036854775807 },
     ghost unlisted: { last_item left ≡ 0 },
-    ghost rows: { last_row left ≤ 2 ^ 33 },
+    ghost rows: { last_row left ≤ 2 ^ 62 },
 }
 
 /// A loop that is open: its present turn and those left, and how many of those before held.
@@ -37,15 +37,16 @@ pub struct OpenLoop {
     pub kept: u32,
     /// The items of a list; None is undefined.
     pub items: [Option<i64>; MOST_ITEMS],
+    ghost near: { place + 1 < 2 ^ 32 },
     ghost counted: { held + turns_left left < total },
-    ghost small: { total ≤ 2 ^ 32 },
+    ghost small: { total ≤ 2 ^ 62 },
     ghost numbers: { last_number left ≤ℤ pos 9223372036854775807 },
     ghost listed: { last_item left ≤ 128 },
-    ghost rows: { last_row left ≤ 2 ^ 33 },
+    ghost rows: { last_row left ≤ 2 ^ 62 },
 }
 
 impl OpenLoop {
-    ghost use Rattle.std.specs.Prelude.{◌≡◌, ◌+◌, List};
+    ghost use Rattle.std.specs.Prelude.{◌≡◌, ◌+◌, ◌<◌, ◌^◌, List};
     ghost use Rattle.yr_rows.specs.Nodes.{outputs_of};
     ghost use Rattle.yr_values.specs.Values.{Value as PlainValue};
     ghost use Rattle.yr_machine.specs.Machine.{OpenLoop as PlainLoop, next_turn};
@@ -70,6 +71,7 @@ impl OpenLoop {
     /// Begins over these turns. The items stay.
     #[inline]
     pub fn begin(&mut self, place: u32, end: u32, quantifier: Quantifier, turns: Turns, kept: u32)
+        requires { place + 1 < 2 ^ 32 }
         ensures items { self.new.items ≡ self.old.items }
         ensures place { self.new.place ≡ place }
         ensures end { self.new.end ≡ end }
@@ -104,7 +106,9 @@ impl OpenLoop {
                 self.present = present;
                 self.left = left;
                 self.held = held;
-                Turned::Again { place: self.place }
+                Turned::Again {
+                    place: self.place + 1,
+                }
             }
             None => Turned::Over {
                 end: self.end,

@@ -78,13 +78,12 @@ impl<'a> Stack<'a> {
         &items[self.len - 1 - depth]
     }
 
-    /// Takes so many values away.
+    /// Takes so many values away, or all where there are fewer.
     #[inline]
     pub fn shorten(&mut self, taken: usize)
-        requires { taken ≤ length self.old }
         ensures { self.new ≡ drop taken self.old }
     {
-        self.len -= taken;
+        self.len = self.len.saturating_sub(taken);
     }
 
     /// A value in place of so many on top.

@@ -41,7 +41,7 @@ pub fn next_turn(
 ) -> Option<(Present, Left)>
     requires numbers { last_number left ≤ℤ pos 9223372036854775807 }
     requires listed { last_item left ≤ 128 }
-    requires rows { last_row left ≤ 2 ^ 33 }
+    requires rows { last_row left ≤ 2 ^ 62 }
     ensures turns { left_shown (outputs_of lists.now) items.now left ≡ next_shown (outputs_of lists.now) items.now result }
     ensures after { IfSome result (λ next. IsAfter left next.1) }
 {

@@ -19,7 +19,7 @@ pub enum Left {
     Members { row: u64, count: u64 },
 }
 
-/// What comes after a turn: the next one, of the loop at a place, or what follows the loop, with its answer.
+/// What comes after a turn: the next one, which begins at a place, or what follows the loop, with its answer.
 #[derive(Clone, Copy, Debug, PartialEq, Eq)]
 pub enum Turned {
     Again { place: u32 },
