@@ -1,10 +1,11 @@
 -- The next of the turns that are left.
 use Rattle.std.proofs.Common.{◌≡◌, ℕ, zero, suc, ◌+◌, ◌-◌, ◌<◌, ◌≤◌, ℤ, pos, ◌+ℤ◌, List, [], ◌∷◌, length, take, drop, get_or, Option, Some, None, refl, sym, ap, ◌∙◌, arith}
-use Rattle.std.specs.Prelude.{slice_get}
+use Rattle.std.specs.Prelude.{slice_get, nat_le, true, if◌then◌else◌, ◌-ℤ◌}
 use Rattle.std.proofs.Math.Seq.{drop-cons}
 use Rattle.std.proofs.lemmas.Option.{slice_get_within, get_or_from_slice_get, slice_get-get_or}
 use Rattle.yr_values.specs.Values.{Number}
-use Rattle.yr_answer.specs.Turns.{Turn, Item, turns_from}
+use Rattle.std.proofs.lemmas.Bool.Decides.{nat_tests}
+use Rattle.yr_answer.specs.Turns.{Turn, Item, turns_from, turns_between, range_size, range_limit}
 
 pub numbers-next : (x : ℤ) (n : ℕ) → 0 < n → turns_from x n ≡ Item (Number x) ∷ turns_from (x +ℤ pos 1) (n - 1)
 numbers-next x zero lt = absurd (omega arith)
@@ -30,3 +31,15 @@ module _ {A : Type 0} where
   window-none [] (suc from) (suc n) e = refl
   window-none (x ∷ xs) zero n e = cc
   window-none (x ∷ xs) (suc from) n e = window-none xs from n e
+
+within : (n : ℕ) → n ≤ 268435456 → nat_le (n + 1) range_limit ≡ true
+within n le = grind (arith, nat_tests)
+
+-- the turns of a range whose last number is so much above its first
+pub between : (x y : ℤ) (n : ℕ) → range_size (y -ℤ x) ≡ n + 1 → n ≤ 268435456 →
+    Some (Item (Number x) ∷ turns_from (x +ℤ pos 1) n) ≡ turns_between (x, y)
+between x y n e le =
+    let one : n + 1 ≡ suc n = omega arith in
+    sym (ap (λ m. if nat_le m range_limit then Some (turns_from x m) else None) e
+    ∙ ap (λ b. if b then Some (turns_from x (n + 1)) else None) (within n le)
+    ∙ ap (λ m. Some (turns_from x m)) one)

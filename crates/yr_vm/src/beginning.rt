@@ -1,9 +1,9 @@
 //! The turns that loops begin.
 
-ghost use Rattle.std.specs.Prelude.{◌≡◌, ◌+◌, ◌<◌, ◌≤◌, ℕ, List, Some, length};
+ghost use Rattle.std.specs.Prelude.{◌≡◌, ◌+◌, ◌<◌, ◌≤◌, ◌≤ℤ◌, ◌-ℤ◌, ℕ, List, Some, length};
 ghost use Rattle.yr_rows.specs.Nodes.{outputs_of};
 ghost use Rattle.yr_values.specs.Values.{shown};
-ghost use Rattle.yr_answer.specs.Turns.{range_turns, turns_between, string_turns};
+ghost use Rattle.yr_answer.specs.Turns.{range_turns, range_size, turns_between, string_turns};
 ghost use Rattle.yr_vm.specs.Members.{members_in};
 ghost use Rattle.yr_vm.specs.OpenLoops.{begun_shown};
 
@@ -34,6 +34,15 @@ pub fn range(low: &Value<'_>, high: &Value<'_>) -> Begun
     }
 }
 
+// How much a number is above another.
+#[inline]
+fn span(x: i64, y: i64) -> u64
+    requires { x ≤ℤ y }
+    ensures { range_size (y -ℤ x) ≡ result + 1 }
+{
+    y.abs_diff(x)
+}
+
 // The turns from one number up to another.
 #[inline]
 fn numbers(x: i64, y: i64) -> Begun
@@ -42,7 +51,7 @@ fn numbers(x: i64, y: i64) -> Begun
     if y < x {
         return Begun::Nothing;
     }
-    let more = y.abs_diff(x);
+    let more = span(x, y);
     if more > MOST_MORE {
         return Begun::Unknown;
     }
