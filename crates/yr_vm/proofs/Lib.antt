@@ -7,3 +7,4 @@ pub mod SetLemmas
 pub mod ProgramLemmas
 pub mod NameLemmas
 pub mod OperandLemmas
+pub mod ItemLemmas

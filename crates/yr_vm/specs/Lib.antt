@@ -9,3 +9,4 @@ pub mod Worlds
 pub mod Taken
 pub mod Fields
 pub mod States
+pub mod Items

@@ -1,8 +1,8 @@
 -- What the open loops that the code keeps stand for, over the list rows of the image.
-use Rattle.std.specs.Prelude.{ℕ, ◌+◌, Bool, if◌then◌else◌, List, [], ◌∷◌, map, take, drop, reverse, Option, Some, None}
+use Rattle.std.specs.Prelude.{◌≡◌, ℕ, ◌+◌, length, Bool, if◌then◌else◌, List, [], ◌∷◌, map, take, drop, reverse, Option, Some, None}
 use Rattle.yr_values.specs.Values.{Value, Flag}
 use Rattle.yr_values.specs.declared.quantifier.Quantifier.{Quantifier}
-use Rattle.yr_answer.specs.Turns.{Turn}
+use Rattle.yr_answer.specs.Turns.{Turn, item_turns}
 use Rattle.yr_machine.specs.Machine.{OpenLoop, Outcome, stuck, going, machine, give, next_turn}
 use Rattle.yr_vm.specs.declared.open_loop.OpenLoop as kept
 use Rattle.yr_vm.specs.declared.open_loop.Turns as some
@@ -68,3 +68,9 @@ turn_on answer below (l ∷ loops) = next_turn l l.left (held_after answer l.hel
 abbrev pub after_turn : Turned → List Value → List OpenLoop → Outcome
 after_turn (after.Again place) below loops = going (machine place below loops)
 after_turn (after.Over end kept answer) below loops = give end loops (drop kept below) (Flag answer)
+
+-- a loop over items is just begun inside others
+abbrev pub IsListedBy : (place end : ℕ) → Quantifier → (items : List Value) → (kept : ℕ) → (old new : List OpenLoop) → Type 0
+IsListedBy place end quantifier items kept old new =
+    (t : Turn) × (ts : List Turn) × (item_turns items ≡ t ∷ ts)
+    × (new ≡ record { place = place; end = end; quantifier = quantifier; present = t; left = ts; total = length ts + 1; held = 0; kept = kept } ∷ old)

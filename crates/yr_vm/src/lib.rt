@@ -4,6 +4,7 @@
 mod asked;
 mod beginning;
 mod giving;
+mod listing;
 mod looping;
 mod loops;
 mod members;

@@ -4,6 +4,7 @@ ghost use Rattle.std.specs.Prelude.{◌≤◌};
 
 use crate::open_loop::{OpenLoop, Turns};
 use crate::turns::{Present, Turned};
+use yr_base::Value;
 use yr_values::Quantifier;
 
 /// The most loops that are open at once.
@@ -18,13 +19,14 @@ pub struct Loops {
 }
 
 impl Loops {
-    ghost use Rattle.std.specs.Prelude.{◌≡◌, ◌+◌, ◌<◌, ◌^◌, ℕ, List, [], ◌∷◌, length, Some};
+    ghost use Rattle.std.specs.Prelude.{◌≡◌, ◌+◌, ◌<◌, ◌≤◌, ◌^◌, ℕ, List, [], ◌∷◌, length, map, Some};
     ghost use Rattle.yr_rows.specs.Nodes.{outputs_of};
-    ghost use Rattle.yr_values.specs.Values.{Value as PlainValue};
+    ghost use Rattle.yr_values.specs.Values.{Value as PlainValue, shown};
+    ghost use Rattle.yr_vm.specs.Items.{AreItems};
     ghost use Rattle.yr_answer.specs.Turns.{turn_at};
     ghost use Rattle.yr_machine.specs.Machine.{machine, going, begin};
     ghost use Rattle.yr_vm.specs.Turns.{present_shown};
-    ghost use Rattle.yr_vm.specs.OpenLoops.{loops_shown, presents_shown, turn_on, after_turn, begun_by};
+    ghost use Rattle.yr_vm.specs.OpenLoops.{loops_shown, presents_shown, turn_on, after_turn, begun_by, IsListedBy};
 
     /// No open loop.
     pub fn new() -> Loops
@@ -64,6 +66,28 @@ impl Loops {
         let open = &mut self.open[..];
         let next = &mut open[self.len];
         next.begin(place, end, quantifier, turns, 0);
+        self.len += 1;
+    }
+
+    /// Opens a loop over a list inside the others. It keeps so many values on the stack.
+    pub fn open_list(
+        &mut self,
+        place: u32,
+        end: u32,
+        quantifier: Quantifier,
+        values: &[Value<'_>],
+        kept: u32,
+    )
+        requires near { place + 1 < 2 ^ 32 }
+        requires some { 1 ≤ length values.now }
+        requires most { length values.now ≤ 128 }
+        requires items { AreItems (map shown values.now) }
+        requires few { length (presents_shown self.old) < 4 }
+        ensures { (lists : List ℕ) → IsListedBy place end quantifier (map shown values.now) kept (loops_shown lists self.old) (loops_shown lists self.new) }
+    {
+        let open = &mut self.open[..];
+        let next = &mut open[self.len];
+        next.begin_list(place, end, quantifier, values, kept);
         self.len += 1;
     }
 

@@ -3,8 +3,10 @@
 ghost use Rattle.std.specs.Prelude.{◌≡◌, ◌+◌, ◌<◌, ◌≤◌, ◌^◌, ◌≤ℤ◌, pos};
 ghost use Rattle.yr_vm.specs.Turns.{turns_left, last_number, last_item, last_row};
 
-use crate::turning::next_turn;
+use crate::listing::copy_items;
+use crate::turning::{item_turn, next_turn};
 use crate::turns::{Left, Present, Turned};
+use yr_base::Value;
 use yr_values::Quantifier;
 
 /// The most items of a list.
@@ -46,11 +48,13 @@ pub struct OpenLoop {
 }
 
 impl OpenLoop {
-    ghost use Rattle.std.specs.Prelude.{◌≡◌, ◌+◌, ◌<◌, ◌^◌, List};
+    ghost use Rattle.std.specs.Prelude.{◌≡◌, ◌+◌, ◌<◌, ◌≤◌, ◌^◌, ℕ, List, ◌∷◌, length, map};
     ghost use Rattle.yr_rows.specs.Nodes.{outputs_of};
-    ghost use Rattle.yr_values.specs.Values.{Value as PlainValue};
+    ghost use Rattle.yr_values.specs.Values.{Value as PlainValue, shown};
+    ghost use Rattle.yr_answer.specs.Turns.{item_turns};
+    ghost use Rattle.yr_vm.specs.Items.{AreItems};
     ghost use Rattle.yr_machine.specs.Machine.{OpenLoop as PlainLoop, next_turn};
-    ghost use Rattle.yr_vm.specs.Turns.{left_shown};
+    ghost use Rattle.yr_vm.specs.Turns.{left_shown, present_shown};
     ghost use Rattle.yr_vm.specs.OpenLoops.{loop_shown, held_after, turned};
 
     /// A loop that nothing has begun.
@@ -88,6 +92,41 @@ impl OpenLoop {
         self.present = turns.present;
         self.left = turns.left;
         self.total = turns.total;
+        self.held = 0;
+        self.kept = kept;
+    }
+
+    /// Begins over the items of a list.
+    pub fn begin_list(
+        &mut self,
+        place: u32,
+        end: u32,
+        quantifier: Quantifier,
+        values: &[Value<'_>],
+        kept: u32,
+    )
+        requires near { place + 1 < 2 ^ 32 }
+        requires some { 1 ≤ length values.now }
+        requires few { length values.now ≤ 128 }
+        requires items { AreItems (map shown values.now) }
+        ensures turns { (lists : List ℕ) → present_shown self.new.present ∷ left_shown lists self.new.items self.new.left ≡ item_turns (map shown values.now) }
+        ensures place { self.new.place ≡ place }
+        ensures end { self.new.end ≡ end }
+        ensures quantifier { self.new.quantifier ≡ quantifier }
+        ensures total { self.new.total ≡ length values.now }
+        ensures held { self.new.held ≡ 0 }
+        ensures kept { self.new.kept ≡ kept }
+    {
+        copy_items(&mut self.items, values);
+        self.place = place;
+        self.end = end;
+        self.quantifier = quantifier;
+        self.present = item_turn(self.items[0]);
+        self.left = Left::Items {
+            from: 1,
+            count: values.len() - 1,
+        };
+        self.total = values.len() as u64;
         self.held = 0;
         self.kept = kept;
     }

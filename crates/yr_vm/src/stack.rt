@@ -78,6 +78,15 @@ impl<'a> Stack<'a> {
         &items[self.len - 1 - depth]
     }
 
+    /// So many values on top, the lowest first.
+    #[inline]
+    pub fn top(&self, count: usize) -> &[Value<'a>]
+        requires { count ≤ length self.now }
+        ensures { map shown result.now ≡ reverse (take count self.now) }
+    {
+        &self.items[self.len - count..self.len]
+    }
+
     /// Takes so many values away, or all where there are fewer.
     #[inline]
     pub fn shorten(&mut self, taken: usize)
