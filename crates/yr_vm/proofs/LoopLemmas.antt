@@ -2,14 +2,17 @@
 use Rattle.std.proofs.Common.{◌≡◌, ℕ, zero, suc, ◌+◌, ◌-◌, ◌<◌, ◌≤◌, Bool, true, false, if◌then◌else◌, List, [], ◌∷◌, length, map, take, drop, reverse, set, get_or, Option, Some, None, refl, sym, ap, ◌∙◌, subst, arith, inl, inr, cond}
 use Rattle.std.specs.Prelude.{◌==◌}
 use Rattle.std.proofs.lemmas.Bool.{cases_lt}
-use Rattle.yr_answer.specs.Turns.{Turn, turn_at}
+use Rattle.yr_answer.specs.Turns.{Turn, Item, turn_at, item_turns}
 use Rattle.yr_vm.specs.declared.open_loop.OpenLoop as kept
-use Rattle.yr_vm.specs.Turns.{present_shown}
+use Rattle.yr_vm.specs.declared.loops.Loops as open_loops
+use Rattle.yr_values.specs.declared.quantifier.Quantifier.{Quantifier}
+use Rattle.std.proofs.lemmas.List.{length-map, length-reverse, map-reverse, map-map}
+use Rattle.yr_vm.specs.Turns.{present_shown, left_shown}
 use Rattle.yr_vm.specs.declared.turns.Turned.{Turned}
 use Rattle.yr_vm.specs.declared.turns.Turned.TheVariants as after
 use Rattle.yr_values.specs.Values.{Value}
-use Rattle.yr_machine.specs.Machine.{OpenLoop, going, machine, next_turn}
-use Rattle.yr_vm.specs.OpenLoops.{loop_shown, held_after, turned, turn_on, after_turn}
+use Rattle.yr_machine.specs.Machine.{OpenLoop, going, machine, present_turns}
+use Rattle.yr_vm.specs.OpenLoops.{loop_shown, loops_shown, presents_shown, turned, turn_on, after_turn}
 use Rattle.yr_vm.proofs.StackLemmas.{top, top-more, top-length, top-last, top-changed}
 use Rattle.std.proofs.lemmas.Bool.Decides.{nat_tests}
 
@@ -53,3 +56,32 @@ turn-again lists items n blank new answer result place lt le again h below =
     ∙ ap (λ t. turned t below (shows new) rest) again
     ∙ ap (λ loops. going (machine place below loops)) (sym (top-changed shows blank items n new lt le))
     ∙ ap (λ t. after_turn t below (top shows blank (set items (n - 1) new) n)) (sym again)
+
+-- as many loops are open as have present turns
+pub same-length : (lists : List ℕ) (s : open_loops.Loops) → length (loops_shown lists s) ≡ length (presents_shown s)
+same-length lists s =
+    let shows = λ (l : kept.OpenLoop). present_shown l.present in
+    length-reverse (map (loop_shown lists) (take s.len s.open)) ∙ length-map (take s.len s.open) (loop_shown lists)
+    ∙ sym (length-reverse (map shows (take s.len s.open)) ∙ length-map (take s.len s.open) shows)
+
+-- their present turns
+pub same-presents : (lists : List ℕ) (s : open_loops.Loops) → present_turns (loops_shown lists s) ≡ presents_shown s
+same-presents lists s =
+    map-reverse (λ (l : OpenLoop). l.present) (map (loop_shown lists) (take s.len s.open))
+    ∙ ap reverse (map-map (λ (l : OpenLoop). l.present) (loop_shown lists) (take s.len s.open))
+
+-- a list's loop that is just begun, from its fields
+pub listed : (lists : List ℕ) (l : kept.OpenLoop) (place end : ℕ) (quantifier : Quantifier) (values : List Value) (held kept : ℕ) →
+    present_shown l.present ∷ left_shown lists l.items l.left ≡ item_turns values → l.place ≡ place → l.end ≡ end → l.quantifier ≡ quantifier →
+    l.total ≡ length values → l.held ≡ 0 → l.kept ≡ kept →
+    loop_shown lists l ≡ record {
+      place = place; end = end; quantifier = quantifier; present = present_shown l.present; left = left_shown lists l.items l.left;
+      total = length (left_shown lists l.items l.left) + 1; held = 0; kept = kept;
+    }
+listed lists l place end quantifier values held kept turns is_place is_end is_quantifier is_total is_held is_kept =
+    let count : length (present_shown l.present ∷ left_shown lists l.items l.left) ≡ length values = ap length turns ∙ length-map values Item in
+    let total : l.total ≡ length (left_shown lists l.items l.left) + 1 = omega (arith, count, is_total) in
+    λ i. record {
+      place = is_place i; end = is_end i; quantifier = is_quantifier i; present = present_shown l.present; left = left_shown lists l.items l.left;
+      total = total i; held = is_held i; kept = is_kept i;
+    }

@@ -24,6 +24,9 @@ module _ {A B : Type 0} (shows : A → B) (blank : A) where
       ∙ ap reverse (map-append shows (take n items) (v ∷ []))
       ∙ reverse-append (map shows (take n items)) (shows v ∷ [])
 
+  pub top-pushed : (items : List A) (n : ℕ) (v : A) → n < length items → top (set items n v) (n + 1) ≡ shows v ∷ top items n
+  top-pushed items n v lt = let one : n + 1 ≡ suc n = omega arith in ap (top (set items n v)) one ∙ top-set items n v lt
+
   drop-none : (xs : List B) → drop zero xs ≡ xs
   drop-none [] = refl
   drop-none (x ∷ xs) = refl

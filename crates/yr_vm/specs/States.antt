@@ -1,5 +1,5 @@
 -- What the code's state shows of the machine.
-use Rattle.std.specs.Prelude.{ℕ, Bool, true, false, List, [], ◌∷◌, Option, Some, None}
+use Rattle.std.specs.Prelude.{ℕ, ◌<◌, Bool, true, false, List, [], ◌∷◌, Option, Some, None}
 use Rattle.yr_base.specs.declared.value.Kind.TheVariants as kind
 use Rattle.yr_values.specs.Values.{Value}
 use Rattle.yr_image.specs.declared.instruction.Instruction.{Instruction}
@@ -7,6 +7,9 @@ use Rattle.yr_image.specs.declared.instruction.Instruction.TheVariants as i
 use Rattle.yr_machine.specs.declared.block.Want.TheVariants as want
 use Rattle.yr_machine.specs.Machine.{Machine, machine, Outcome, going, done, OpenLoop, take_values, with_operands, finish, flag_of, branch, end_turn}
 use Rattle.yr_vm.specs.declared.state.State.{State}
+use Rattle.yr_values.specs.declared.quantifier.Quantifier.{Quantifier}
+use Rattle.yr_vm.specs.declared.beginning.Begun.{Begun}
+use Rattle.yr_vm.specs.declared.beginning.Begun.TheVariants as begun
 use Rattle.yr_vm.specs.OpenLoops.{loops_shown}
 
 abbrev pub seen : (lists : List ℕ) → State → Machine
@@ -34,3 +37,8 @@ skip_outcome instruction place stack loops =
 abbrev pub turn_outcome : (c : ℕ) → (stack : List Value) → List OpenLoop → Outcome
 turn_outcome c stack loops =
     with_operands (take_values (want.Of kind.Flag ∷ []) stack) (λ operands below. end_turn c (flag_of operands) below loops)
+
+-- there is room for the loop, or for its value where it ends at once
+abbrev pub CanBegin : Option Quantifier → Begun → (loops values : ℕ) → Type 0
+CanBegin (Some q) (begun.Some turns) loops values = loops < 4
+CanBegin q b loops values = values < 4096
