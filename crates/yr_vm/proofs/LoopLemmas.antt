@@ -1,18 +1,22 @@
 -- The open loops that are kept in an array, the outermost first.
-use Rattle.std.proofs.Common.{◌≡◌, ℕ, zero, suc, ◌+◌, ◌-◌, ◌<◌, ◌≤◌, Bool, true, false, if◌then◌else◌, List, [], ◌∷◌, length, map, take, drop, reverse, set, get_or, Option, Some, None, refl, sym, ap, ◌∙◌, subst, arith, inl, inr, cond}
-use Rattle.std.specs.Prelude.{◌==◌}
+use Rattle.std.proofs.Common.{◌≡◌, ℕ, zero, suc, ◌+◌, ◌-◌, ◌<◌, ◌≤◌, Bool, true, false, if◌then◌else◌, List, [], ◌∷◌, ◌++◌, length, map, take, drop, reverse, set, get_or, Option, Some, None, refl, sym, ap, ◌∙◌, subst, arith, inl, inr, cond}
+use Rattle.std.specs.Prelude.{◌==◌, nat_lt}
 use Rattle.std.proofs.lemmas.Bool.{cases_lt}
 use Rattle.yr_answer.specs.Turns.{Turn, Item, turn_at, item_turns}
 use Rattle.yr_vm.specs.declared.open_loop.OpenLoop as kept
 use Rattle.yr_vm.specs.declared.loops.Loops as open_loops
+use Rattle.yr_vm.specs.declared.open_loop.Turns as some
+use Rattle.yr_vm.specs.declared.beginning.Begun.TheVariants as begun
 use Rattle.yr_values.specs.declared.quantifier.Quantifier.{Quantifier}
-use Rattle.std.proofs.lemmas.List.{length-map, length-reverse, map-reverse, map-map}
+use Rattle.std.proofs.lemmas.List.{length-map, length-reverse, map-append, reverse-append}
+use Rattle.std.proofs.lemmas.Simd.{map-map}
 use Rattle.yr_vm.specs.Turns.{present_shown, left_shown}
 use Rattle.yr_vm.specs.declared.turns.Turned.{Turned}
 use Rattle.yr_vm.specs.declared.turns.Turned.TheVariants as after
 use Rattle.yr_values.specs.Values.{Value}
-use Rattle.yr_machine.specs.Machine.{OpenLoop, going, machine, present_turns}
-use Rattle.yr_vm.specs.OpenLoops.{loop_shown, loops_shown, presents_shown, turned, turn_on, after_turn}
+use Rattle.yr_machine.specs.Machine.{OpenLoop, stuck, going, machine, begin, present_turns}
+use Rattle.yr_machine.specs.CodeWalk.{most_loops}
+use Rattle.yr_vm.specs.OpenLoops.{begun_shown, begun_by, loop_shown, loops_shown, presents_shown, turned, turn_on, after_turn}
 use Rattle.yr_vm.proofs.StackLemmas.{top, top-more, top-length, top-last, top-changed}
 use Rattle.std.proofs.lemmas.Bool.Decides.{nat_tests}
 
@@ -64,6 +68,12 @@ same-length lists s =
     length-reverse (map (loop_shown lists) (take s.len s.open)) ∙ length-map (take s.len s.open) (loop_shown lists)
     ∙ sym (length-reverse (map shows (take s.len s.open)) ∙ length-map (take s.len s.open) shows)
 
+map-reverse : {A B : Type 0} → (g : A → B) (xs : List A) → map g (reverse xs) ≡ reverse (map g xs)
+map-reverse g [] = refl
+map-reverse g (x ∷ xs) =
+    ap (map g) (reverse-append (x ∷ []) xs) ∙ map-append g (reverse xs) (x ∷ []) ∙ ap (λ ys. ys ++ g x ∷ []) (map-reverse g xs)
+    ∙ sym (reverse-append (g x ∷ []) (map g xs))
+
 -- their present turns
 pub same-presents : (lists : List ℕ) (s : open_loops.Loops) → present_turns (loops_shown lists s) ≡ presents_shown s
 same-presents lists s =
@@ -85,3 +95,21 @@ listed lists l place end quantifier values held kept turns is_place is_end is_qu
       place = is_place i; end = is_end i; quantifier = is_quantifier i; present = present_shown l.present; left = left_shown lists l.items l.left;
       total = total i; held = is_held i; kept = is_kept i;
     }
+
+few-loops : (n : ℕ) → n < 4 → nat_lt n most_loops ≡ true
+few-loops n lt = grind (arith, nat_tests)
+
+-- a loop begins with the turns that the code has for it
+pub begin-some : (lists : List ℕ) (s : open_loops.Loops) (place end : ℕ) (q : Quantifier) (turns : some.Turns) (body below : List Value) →
+    length (presents_shown s) < 4 → length (left_shown lists [] turns.left) + 1 ≡ turns.total →
+    going (machine (place + 1) body (begun_by lists place end q turns ∷ loops_shown lists s))
+    ≡ begin (Some q) (begun_shown lists (begun.Some turns)) place end 0 body below (loops_shown lists s)
+begin-some lists s place end q turns body below few count =
+    let loops = loops_shown lists s in
+    let one = λ (total : ℕ). going (machine (place + 1) body (record {
+      place = place; end = end; quantifier = q; present = present_shown turns.present; left = left_shown lists [] turns.left;
+      total = total; held = 0; kept = 0;
+    } ∷ loops)) in
+    ap one (sym count)
+    ∙ sym (ap (λ b. if b then one (length (left_shown lists [] turns.left) + 1) else stuck)
+    (few-loops (length loops) (omega (arith, few, same-length lists s))))

@@ -8,17 +8,13 @@ use Rattle.yr_machine.specs.declared.block.Want.TheVariants as want
 use Rattle.yr_machine.specs.Machine.{OpenLoop, Outcome, stuck, flag_of, end_turn, next_turn, Taken, missing, took, and_took, take_values, with_operands, suits}
 use Rattle.yr_machine.specs.Counts.{NotStuck}
 use Rattle.yr_vm.specs.OpenLoops.{turn_on, held_after}
-use Rattle.yr_vm.specs.States.{turn_outcome}
+use Rattle.yr_vm.specs.States.{IsThere, turn_outcome}
 
-abbrev pub IsThere : Taken → Type 0
-IsThere missing = ⊥
-IsThere (took operands below) = Unit {0}
-
-is-there : (t : Taken) (go : List Value → List Value → Outcome) → NotStuck (with_operands t go) → IsThere t
+pub is-there : (t : Taken) (go : List Value → List Value → Outcome) → NotStuck (with_operands t go) → IsThere t
 is-there missing go n = n
 is-there (took operands below) go n = tt
 
-abbrev both : ℕ → List Value → Taken
+abbrev pub both : ℕ → List Value → Taken
 both n stack = took (take n stack) (drop n stack)
 
 none-taken : (stack : List Value) → took [] stack ≡ both zero stack
@@ -35,7 +31,7 @@ by-suit true v t n stack h more =
     let m = more (rest-there v t h) in (ap (and_took v) m.0, omega (arith, m.1))
 by-suit false v t n stack h more = absurd h
 
-known : (wants : List Want) (stack : List Value) → IsThere (take_values wants stack) →
+pub known : (wants : List Want) (stack : List Value) → IsThere (take_values wants stack) →
     (take_values wants stack ≡ both (length wants) stack) × (length wants ≤ length stack)
 known [] stack h = (none-taken stack, omega arith)
 known (w ∷ wants) [] h = absurd h

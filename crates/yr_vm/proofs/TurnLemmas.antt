@@ -2,10 +2,11 @@
 use Rattle.std.proofs.Common.{◌≡◌, ℕ, zero, suc, ◌+◌, ◌-◌, ◌<◌, ◌≤◌, ℤ, pos, ◌+ℤ◌, List, [], ◌∷◌, length, take, drop, get_or, Option, Some, None, refl, sym, ap, ◌∙◌, arith}
 use Rattle.std.specs.Prelude.{slice_get, nat_le, true, if◌then◌else◌, ◌-ℤ◌}
 use Rattle.std.proofs.Math.Seq.{drop-cons}
+use Rattle.std.proofs.lemmas.List.{length-map, length-drop, length-take-le}
 use Rattle.std.proofs.lemmas.Option.{slice_get_within, get_or_from_slice_get, slice_get-get_or}
 use Rattle.yr_values.specs.Values.{Number}
 use Rattle.std.proofs.lemmas.Bool.Decides.{nat_tests}
-use Rattle.yr_answer.specs.Turns.{Turn, Item, turns_from, turns_between, range_size, range_limit}
+use Rattle.yr_answer.specs.Turns.{Turn, Item, Member, turns_from, string_turns, turns_between, range_size, range_limit}
 
 pub numbers-next : (x : ℤ) (n : ℕ) → 0 < n → turns_from x n ≡ Item (Number x) ∷ turns_from (x +ℤ pos 1) (n - 1)
 numbers-next x zero lt = absurd (omega arith)
@@ -43,3 +44,16 @@ between x y n e le =
     sym (ap (λ m. if nat_le m range_limit then Some (turns_from x m) else None) e
     ∙ ap (λ b. if b then Some (turns_from x (n + 1)) else None) (within n le)
     ∙ ap (λ m. Some (turns_from x m)) one)
+
+turns-length : (x : ℤ) (n : ℕ) → length (turns_from x n) ≡ n
+turns-length x zero = refl
+turns-length x (suc n) = ap suc (turns-length (x +ℤ pos 1) n)
+
+pub turns-counted : (x : ℤ) (n : ℕ) → length (turns_from x n) + 1 ≡ n + 1
+turns-counted x n = ap (λ k. k + 1) (turns-length x n)
+
+pub members-counted : (lists : List ℕ) (row n total : ℕ) → row + n ≤ length lists → n + 1 ≡ total →
+    length (string_turns (take n (drop row lists))) + 1 ≡ total
+members-counted lists row n total le e =
+    let fits : n ≤ length (drop row lists) = omega (arith, length-drop row lists, le) in
+    omega (arith, length-map (take n (drop row lists)) Member, length-take-le n (drop row lists) fits, e)

@@ -31,6 +31,12 @@ begun_shown lists begun.Unknown = None
 begun_shown lists begun.Nothing = Some []
 begun_shown lists (begun.Some turns) = Some (present_shown turns.present ∷ left_shown lists [] turns.left)
 
+-- the code counts the turns of a loop that it begins
+abbrev pub IsCounted : (lists : List ℕ) → Begun → Type 0
+IsCounted lists begun.Unknown = Unit {0}
+IsCounted lists begun.Nothing = Unit {0}
+IsCounted lists (begun.Some turns) = length (left_shown lists [] turns.left) + 1 ≡ turns.total
+
 -- how many turns hold after one with this answer
 abbrev pub held_after : (answer : Bool) → ℕ → ℕ
 held_after answer held = if answer then held + 1 else held

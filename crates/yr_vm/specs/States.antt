@@ -5,9 +5,10 @@ use Rattle.yr_values.specs.Values.{Value}
 use Rattle.yr_image.specs.declared.instruction.Instruction.{Instruction}
 use Rattle.yr_image.specs.declared.instruction.Instruction.TheVariants as i
 use Rattle.yr_machine.specs.declared.block.Want.TheVariants as want
-use Rattle.yr_machine.specs.Machine.{Machine, machine, Outcome, going, done, OpenLoop, take_values, with_operands, finish, flag_of, branch, end_turn}
+use Rattle.yr_machine.specs.Machine.{Machine, machine, Outcome, going, done, OpenLoop, Taken, missing, took, take_values, with_operands, finish, flag_of, branch, end_turn}
 use Rattle.yr_vm.specs.declared.state.State.{State}
 use Rattle.yr_values.specs.declared.quantifier.Quantifier.{Quantifier}
+use Rattle.yr_answer.specs.Turns.{Turn}
 use Rattle.yr_vm.specs.declared.beginning.Begun.{Begun}
 use Rattle.yr_vm.specs.declared.beginning.Begun.TheVariants as begun
 use Rattle.yr_vm.specs.OpenLoops.{loops_shown}
@@ -19,6 +20,11 @@ seen lists s = machine s.place s.stack (loops_shown lists s.loops)
 abbrev pub outcome_of : (lists : List ℕ) → Option Bool → State → Outcome
 outcome_of lists None s = going (seen lists s)
 outcome_of lists (Some truth) s = done truth
+
+-- operands are there
+abbrev pub IsThere : Taken → Type 0
+IsThere missing = ⊥
+IsThere (took operands below) = Unit {0}
 
 -- the end of a rule
 abbrev pub finish_outcome : (stack : List Value) → Outcome
@@ -42,3 +48,8 @@ turn_outcome c stack loops =
 abbrev pub CanBegin : Option Quantifier → Begun → (loops values : ℕ) → Type 0
 CanBegin (Some q) (begun.Some turns) loops values = loops < 4
 CanBegin q b loops values = values < 4096
+
+-- the same of the turns that the machine has for it
+abbrev pub MayBegin : Option Quantifier → Option (List Turn) → (loops values : ℕ) → Type 0
+MayBegin (Some q) (Some (t ∷ ts)) loops values = loops < 4
+MayBegin q turns loops values = values < 4096

@@ -5,7 +5,7 @@ ghost use Rattle.yr_rows.specs.Nodes.{outputs_of};
 ghost use Rattle.yr_values.specs.Values.{shown};
 ghost use Rattle.yr_answer.specs.Turns.{range_turns, range_size, turns_between, string_turns};
 ghost use Rattle.yr_vm.specs.Members.{members_in};
-ghost use Rattle.yr_vm.specs.OpenLoops.{begun_shown};
+ghost use Rattle.yr_vm.specs.OpenLoops.{begun_shown, IsCounted};
 
 use crate::open_loop::Turns;
 use crate::turns::{Left, Present};
@@ -26,7 +26,8 @@ pub enum Begun {
 /// The turns from one value up to another.
 #[inline]
 pub fn range(low: &Value<'_>, high: &Value<'_>) -> Begun
-    ensures { (lists : List ℕ) → begun_shown lists result ≡ range_turns (shown low.now) (shown high.now) }
+    ensures turns { (lists : List ℕ) → begun_shown lists result ≡ range_turns (shown low.now) (shown high.now) }
+    ensures counted { (lists : List ℕ) → IsCounted lists result }
 {
     match (low, high) {
         (Value::Number(x), Value::Number(y)) => numbers(*x, *y),
@@ -46,7 +47,8 @@ fn span(x: i64, y: i64) -> u64
 // The turns from one number up to another.
 #[inline]
 fn numbers(x: i64, y: i64) -> Begun
-    ensures { (lists : List ℕ) → begun_shown lists result ≡ turns_between (x, y) }
+    ensures turns { (lists : List ℕ) → begun_shown lists result ≡ turns_between (x, y) }
+    ensures counted { (lists : List ℕ) → IsCounted lists result }
 {
     if y < x {
         return Begun::Nothing;
@@ -69,7 +71,8 @@ fn numbers(x: i64, y: i64) -> Begun
 #[inline]
 pub fn strings(lists: &[u8], first: u64, rows: u64) -> Begun
     requires { 0 < rows → first + rows ≤ length (outputs_of lists.now) }
-    ensures { begun_shown (outputs_of lists.now) result ≡ Some (string_turns (members_in (outputs_of lists.now) first rows)) }
+    ensures turns { begun_shown (outputs_of lists.now) result ≡ Some (string_turns (members_in (outputs_of lists.now) first rows)) }
+    ensures counted { IsCounted (outputs_of lists.now) result }
 {
     if rows == 0 {
         return Begun::Nothing;

@@ -1,9 +1,12 @@
 //! The end of a rule, and skips.
 
-ghost use Rattle.std.specs.Prelude.{◌≡◌, ◌+◌, ◌<◌, ◌^◌, ℕ, List};
+ghost use Rattle.std.specs.Prelude.{◌≡◌, ◌+◌, ◌<◌, ◌^◌, ℕ, List, [], ◌∷◌};
 ghost use Rattle.yr_machine.specs.Counts.{NotStuck};
 ghost use Rattle.yr_vm.specs.OpenLoops.{loops_shown};
-ghost use Rattle.yr_vm.specs.States.{outcome_of, finish_outcome, skip_to, skip_outcome};
+ghost use Rattle.yr_base.specs.declared.value.Kind.TheVariants as kind;
+ghost use Rattle.yr_machine.specs.declared.block.Want.TheVariants as want;
+ghost use Rattle.yr_machine.specs.Machine.{take_values};
+ghost use Rattle.yr_vm.specs.States.{IsThere, outcome_of, finish_outcome, skip_to, skip_outcome};
 
 use crate::state::State;
 use yr_base::Value;
@@ -21,7 +24,7 @@ pub fn finish(state: &mut State<'_>) -> Option<bool>
 #[inline]
 pub fn skip(state: &mut State<'_>, at_true: bool, end: u32) -> Option<bool>
     requires near { state.old.place + 1 < 2 ^ 32 }
-    requires goes { (lists : List ℕ) → NotStuck (skip_outcome (skip_to at_true end) state.old.place state.old.stack (loops_shown lists state.old.loops)) }
+    requires flag { IsThere (take_values (want.Of kind.Flag ∷ []) state.old.stack) }
     ensures { (lists : List ℕ) → outcome_of lists result state.new
         ≡ skip_outcome (skip_to at_true end) state.old.place state.old.stack (loops_shown lists state.old.loops) }
 {

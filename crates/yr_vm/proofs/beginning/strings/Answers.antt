@@ -1,8 +1,8 @@
-use Rattle.std.proofs.Common.{◌≡◌, ◌<◌, ◌≤◌, ◌+◌, length, Some, sym, ap, arith}
+use Rattle.std.proofs.Common.{◌≡◌, ◌<◌, ◌≤◌, ◌+◌, ◌-◌, length, Some, sym, ap, arith}
 use Rattle.yr_rows.specs.Nodes.{outputs_of}
 use Rattle.yr_rows.proofs.ByteLemmas.{output_count}
 use Rattle.yr_answer.specs.Turns.{string_turns}
-use Rattle.yr_vm.proofs.TurnLemmas.{window-next}
+use Rattle.yr_vm.proofs.TurnLemmas.{window-next, members-counted}
 use Rattle.yr_vm.proofs.beginning.strings.Goals as goal
 
 pub overflow_add-result : goal.overflow_add-result
@@ -23,7 +23,12 @@ invariant_of-result-clause-rows c =
     let count = output_count c.args.lists.now in
     omega arith
 
-pub returns : goal.returns
-returns c =
+pub returns-clause-turns : goal.returns-clause-turns
+returns-clause-turns c =
     sym (ap (λ xs. Some (string_turns xs))
     (window-next (outputs_of c.args.lists.now) c.args.first c.args.rows c.output_at.result (omega arith) c.output_at.ensures))
+
+pub returns-clause-counted : goal.returns-clause-counted
+returns-clause-counted c =
+    let there : c.args.first + c.args.rows ≤ length (outputs_of c.args.lists.now) = c.requires (omega arith) in
+    members-counted (outputs_of c.args.lists.now) (c.args.first + 1) (c.args.rows - 1) c.args.rows (omega (arith, there)) (omega arith)
