@@ -6,7 +6,9 @@ use Rattle.yr_answer.specs.Turns.{Turn, Item, turn_at, item_turns}
 use Rattle.yr_vm.specs.declared.open_loop.OpenLoop as kept
 use Rattle.yr_vm.specs.declared.loops.Loops as open_loops
 use Rattle.yr_vm.specs.declared.open_loop.Turns as some
+use Rattle.yr_vm.specs.declared.beginning.Begun.{Begun}
 use Rattle.yr_vm.specs.declared.beginning.Begun.TheVariants as begun
+use Rattle.yr_vm.specs.States.{MayBegin, CanBegin}
 use Rattle.yr_values.specs.declared.quantifier.Quantifier.{Quantifier}
 use Rattle.std.proofs.lemmas.List.{length-map, length-reverse, map-append, reverse-append}
 use Rattle.std.proofs.lemmas.Simd.{map-map}
@@ -113,3 +115,27 @@ begin-some lists s place end q turns body below few count =
     ap one (sym count)
     ∙ sym (ap (λ b. if b then one (length (left_shown lists [] turns.left) + 1) else stuck)
     (few-loops (length loops) (omega (arith, few, same-length lists s))))
+
+-- where the machine may begin its turns, the code can begin those that it has
+pub can-begin : (lists : List ℕ) (q : Option Quantifier) (b : Begun) (n values : ℕ) → MayBegin q (begun_shown lists b) n values → CanBegin q b n values
+can-begin lists None begun.Unknown n values m = m
+can-begin lists None begun.Nothing n values m = m
+can-begin lists None (begun.Some turns) n values m = m
+can-begin lists (Some q) begun.Unknown n values m = m
+can-begin lists (Some q) begun.Nothing n values m = m
+can-begin lists (Some q) (begun.Some turns) n values m = m
+
+-- a loop over a list begins
+pub listed-begins : (s : open_loops.Loops) (place end : ℕ) (q : Quantifier) (values : List Value) (kept : ℕ) (t : Turn) (ts : List Turn)
+    (lists : List ℕ) (later : List OpenLoop) (body below : List Value) → item_turns values ≡ t ∷ ts →
+    later ≡ record { place = place; end = end; quantifier = q; present = t; left = ts; total = length ts + 1; held = 0; kept = kept } ∷ loops_shown lists s →
+    MayBegin (Some q) (Some (item_turns values)) (length (presents_shown s)) (length below) →
+    going (machine (place + 1) body later) ≡ begin (Some q) (Some (item_turns values)) place end kept body below (loops_shown lists s)
+listed-begins s place end q values kept t ts lists later body below turns is may =
+    let loops = loops_shown lists s in
+    let few : length (presents_shown s) < 4 = subst (λ us. MayBegin (Some q) (Some us) (length (presents_shown s)) (length below)) turns may in
+    ap (λ (l : List OpenLoop). going (machine (place + 1) body l)) is
+    ∙ sym (ap (λ us. begin (Some q) (Some us) place end kept body below loops) turns
+    ∙ ap (λ b. if b then going (machine (place + 1) body (record {
+      place = place; end = end; quantifier = q; present = t; left = ts; total = length ts + 1; held = 0; kept = kept;
+    } ∷ loops)) else stuck) (few-loops (length loops) (omega (arith, few, same-length lists s))))

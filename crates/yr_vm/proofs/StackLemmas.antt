@@ -1,8 +1,8 @@
 -- A stack that is kept in an array: what the first n items show, from the last one down.
 use Rattle.std.proofs.Common.{◌≡◌, ℕ, zero, suc, ◌+◌, ◌-◌, ◌<◌, ◌≤◌, List, [], ◌∷◌, ◌++◌, length, map, take, drop, reverse, set, get_or, refl, sym, ap, ◌∙◌, subst, arith, inl, inr, ◌⊎◌}
 use Rattle.std.proofs.lemmas.Bool.{cases_lt}
-use Rattle.std.proofs.Math.Seq.{take-suc, take-suc-set}
-use Rattle.std.proofs.lemmas.List.{map-append, reverse-append, length-reverse, length-map, length-take-le}
+use Rattle.std.proofs.Math.Seq.{take-suc, take-suc-set, take-add}
+use Rattle.std.proofs.lemmas.List.{map-append, reverse-append, length-reverse, length-map, length-take-le, length-drop, reverse-reverse}
 
 cases_le : (a b : ℕ) → (a ≤ b) ⊎ (b < a)
 cases_le a b = elim (cases_lt b a) [ inl lt ↦ inr lt | inr le ↦ inl le ]
@@ -104,3 +104,28 @@ module _ {A B : Type 0} (shows : A → B) (blank : A) where
             ap (top items) none ∙ ap (λ xs. reverse (map shows xs)) (take-zero items)
             ∙ sym (drop-all taken (top items n) (omega (arith, lt, top-length items n fits)))
       ]
+
+  -- so many items on top, the lowest first
+  pub top-front : (items : List A) (count n : ℕ) → count ≤ n → n ≤ length items →
+      map shows (take (n - (n - count)) (drop (n - count) items)) ≡ reverse (take count (top items n))
+  top-front items count n le fits =
+      let low = n - count in
+      let size : n - low ≡ count = omega (arith, le) in
+      let whole : low + count ≡ n = omega (arith, le) in
+      let part = take count (drop low items) in
+      let room : count ≤ length (drop low items) = omega (arith, length-drop low items, whole, fits) in
+      let high : length (reverse (map shows part)) ≡ count = length-reverse (map shows part) ∙ length-map part shows ∙ length-take-le count (drop low items) room in
+      let split : top items n ≡ reverse (map shows part) ++ reverse (map shows (take low items)) =
+      ap (top items) (sym whole) ∙ ap (λ xs. reverse (map shows xs)) (take-add low count items)
+      ∙ ap reverse (map-append shows (take low items) part) ∙ reverse-append (map shows (take low items)) (map shows part) in
+      ap (λ k. map shows (take k (drop low items))) size
+      ∙ sym (reverse-reverse (map shows part))
+      ∙ ap reverse (sym (front count (reverse (map shows part)) (reverse (map shows (take low items))) high))
+      ∙ ap (λ xs. reverse (take count xs)) (sym split)
+    where
+      front : (k : ℕ) (xs ys : List B) → length xs ≡ k → take k (xs ++ ys) ≡ xs
+      front zero [] [] e = refl
+      front zero [] (y ∷ ys) e = refl
+      front (suc k) [] ys e = absurd (omega (arith, e))
+      front zero (x ∷ xs) ys e = absurd (omega (arith, e))
+      front (suc k) (x ∷ xs) ys e = ap (λ zs. x ∷ zs) (front k xs ys (omega (arith, e)))
