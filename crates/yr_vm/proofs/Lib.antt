@@ -8,3 +8,5 @@ pub mod ProgramLemmas
 pub mod NameLemmas
 pub mod OperandLemmas
 pub mod ItemLemmas
+pub mod ActLemmas
+pub mod AmongLemmas
