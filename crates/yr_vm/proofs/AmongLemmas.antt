@@ -1,6 +1,6 @@
 -- The strings that open loops go over are strings of the image: an instruction keeps it so.
 use Rattle.std.proofs.Common.{◌≡◌, ℕ, zero, suc, ◌+◌, ◌<◌, ◌≤◌, ℤ, pos, ◌+ℤ◌, Bool, true, false, cond, List, [], ◌∷◌, length, map, take, drop, reverse, Option, Some, None, refl, sym, ap, ◌∙◌, subst, arith}
-use Rattle.std.specs.Prelude.{nat_lt, nat_le, ◌==◌, ◌-ℤ◌, if◌then◌else◌}
+use Rattle.std.specs.Prelude.{nat_lt, nat_le, ◌==◌, ◌&&◌, ◌||◌, ◌-ℤ◌, if◌then◌else◌}
 use Rattle.std.specs.List.{list_all}
 use Rattle.std.proofs.lemmas.Bool.Decides.{nat_tests}
 use Rattle.yr_values.specs.Values.{Value, Undefined, Number, Flag, Text}
@@ -99,7 +99,7 @@ module _ (count : ℕ) where
   items-among [] = tt
   items-among (v ∷ values) = items-among values
 
-  both-true : (a b : Bool) → (cond a b false) ≡ true → (a ≡ true) × (b ≡ true)
+  both-true : (a b : Bool) → (a && b) ≡ true → (a ≡ true) × (b ≡ true)
   both-true true b e = (refl, e)
   both-true false b e = cc
 
@@ -129,3 +129,79 @@ module _ (count : ℕ) where
   range-among (Number x) Undefined ts e = cc
   range-among (Number x) (Flag b) ts e = cc
   range-among (Number x) (Text t) ts e = cc
+
+  members-among : (lists : List ℕ) (first rows n : ℕ) → count ≡ n →
+      ((rows == 0) || (nat_le (first + rows) (length lists) && all_below n (take rows (drop first lists)))) ≡ true →
+      AreAmong count (string_turns (take rows (drop first lists)))
+  members-among lists first zero n same e = subst (λ ks. AreAmong count (string_turns ks)) (sym (take-none (drop first lists))) tt
+    where
+      take-none : (xs : List ℕ) → take zero xs ≡ []
+      take-none [] = refl
+      take-none (x ∷ xs) = refl
+  members-among lists first (suc rows) n same e =
+      let members = take (suc rows) (drop first lists) in
+      let some : (suc rows == 0) ≡ false = refl in
+      let h : (nat_le (first + suc rows) (length lists) && all_below n members) ≡ true =
+      ap (λ b. b || (nat_le (first + suc rows) (length lists) && all_below n members)) (sym some) ∙ e in
+      strings-among members (ap (λ k. all_below k members) same ∙ (both-true (nat_le (first + suc rows) (length lists)) (all_below n members) h).1)
+
+  -- the turns of a loop whose list is there
+  turns-among : (image : Image) (rule : ℕ) (flags : List Bool) (instr : Instruction) (operands : List Value) (ts : List Turn) →
+      count ≡ length image.strings → names_there image rule flags instr ≡ true → turns_of image instr operands ≡ Some ts → AreAmong count ts
+  turns-among image rule flags (i.LoopRange q end) [] ts same e t = cc
+  turns-among image rule flags (i.LoopRange q end) (w ∷ []) ts same e t = cc
+  turns-among image rule flags (i.LoopRange q end) (w ∷ v ∷ operands) ts same e t = range-among v w ts t
+  turns-among image rule flags (i.LoopList q end items) operands ts same e t =
+      let values = reverse (take items operands) in
+      subst (AreAmong count) (some-same (item_turns values) ts t) (items-among values)
+  turns-among image rule flags (i.LoopStrings q end first rows) operands ts same e t =
+      subst (AreAmong count) (some-same (string_turns (members_of image first rows)) ts t) (members-among image.lists first rows (length image.strings) same e)
+  turns-among image rule flags instr operands ts same e t = cc
+
+  branch-kept : (instr : Instruction) (truth : Bool) (place : ℕ) (below : List Value) (loops : List OpenLoop) → AreKept loops → Keeps (branch instr truth place below loops)
+  branch-kept (i.SkipFalse end) truth place below loops k = false-kept end truth place below loops k
+  branch-kept (i.SkipTrue end) truth place below loops k = true-kept end truth place below loops k
+  branch-kept instr truth place below loops k = tt
+
+  module _ (context : Context) (truths : List Bool) (same : count ≡ length context.image.strings) where
+    role-kept : (r : Role) (instr : Instruction) (m : Machine) →
+        names_there context.image (length truths) (map is_member (present_turns m.loops)) instr ≡ true → AreKept m.loops →
+        Keeps (act_by context truths r instr m)
+    role-kept ending instr m e k = with-kept (take_values (want.Any ∷ []) m.stack) finish finish-kept
+    role-kept (plain wants gives) instr m e k =
+        with-kept (take_values wants m.stack)
+        (λ operands below. give (m.place + 1) m.loops below (value_given context truths (present_turns m.loops) instr operands))
+        (λ operands below. give-kept (m.place + 1) m.loops below (value_given context truths (present_turns m.loops) instr operands) k)
+    role-kept (skip end) instr m e k =
+        with-kept (take_values (want.Of kind.Flag ∷ []) m.stack) (λ operands below. branch instr (flag_of operands) m.place below m.loops)
+        (λ operands below. branch-kept instr (flag_of operands) m.place below m.loops k)
+    role-kept (starts wants keeps strings end) instr m e k =
+        with-kept (take_values wants m.stack)
+        (λ operands below. begin (loop_quantifier instr operands) (turns_of context.image instr operands) m.place end (kept_by keeps wants)
+        (below_body keeps m.stack below) below m.loops)
+        (λ operands below. begin-kept (loop_quantifier instr operands) (turns_of context.image instr operands) m.place end (kept_by keeps wants)
+        (below_body keeps m.stack below) below m.loops
+        (λ ts t. turns-among context.image (length truths) (map is_member (present_turns m.loops)) instr operands ts same e t) k)
+    role-kept (turn c) instr m e k =
+        with-kept (take_values (want.Of kind.Flag ∷ []) m.stack) (λ operands below. end_turn c (flag_of operands) below m.loops)
+        (λ operands below. end-kept c (flag_of operands) below m.loops k)
+
+    act-kept : (o : Option Instruction) (m : Machine) → AreKept m.loops → Keeps (act context truths o m)
+    act-kept None m k = tt
+    act-kept (Some instr) m k =
+        let there = names_there context.image (length truths) (map is_member (present_turns m.loops)) instr in
+        let P : Bool → Type 0 = λ b. Keeps (cond b (act_by context truths (role context.image instr) instr m) stuck) in
+        by_test there (P there) (λ e. subst P (sym e) (role-kept (role context.image instr) instr m e k)) (λ e. subst P (sym e) tt)
+
+    -- a row leaves it so
+    pub step-kept : (rows : List CodeRow) (m m1 : Machine) → step context truths rows m ≡ going m1 → AreKept m.loops → AreKept m1.loops
+    step-kept rows m m1 e k = subst Keeps e (act-kept (instruction_at rows m.place) m k)
+
+  first-among : (t : Turn) (ts turns : List Turn) → AreAmong count (t ∷ ts) → AreAmong count turns → AreAmong count (t ∷ turns)
+  first-among (Item v) ts turns a b = b
+  first-among (Member k) ts turns a b = (a.0, b)
+
+  -- the present strings are among them
+  pub presents-among : (loops : List OpenLoop) → AreKept loops → AreAmong count (present_turns loops)
+  presents-among [] k = tt
+  presents-among (l ∷ loops) k = first-among l.present l.left (present_turns loops) k.0 (presents-among loops k.1)

@@ -10,3 +10,4 @@ pub mod OperandLemmas
 pub mod ItemLemmas
 pub mod ActLemmas
 pub mod AmongLemmas
+pub mod ListLemmas

@@ -1,5 +1,5 @@
 -- How many values an instruction takes that gives one.
-use Rattle.std.specs.Prelude.{ℕ, List, [], ◌∷◌, length, ◌<◌}
+use Rattle.std.specs.Prelude.{ℕ, Bool, true, ◌&&◌, nat_le, List, [], ◌∷◌, length, ◌<◌}
 use Rattle.yr_image.specs.declared.instruction.Instruction.{Instruction}
 use Rattle.yr_image.specs.declared.instruction.Instruction.TheVariants as i
 use Rattle.yr_image.specs.Image.{Image}
@@ -31,3 +31,8 @@ abbrev pub AreAmong : (count : ℕ) → List Turn → Type 0
 AreAmong count [] = Unit {0}
 AreAmong count (Item v ∷ turns) = AreAmong count turns
 AreAmong count (Member k ∷ turns) = (k < count) × AreAmong count turns
+
+-- a list of a loop has from 1 to 128 items
+abbrev pub has_short_list : Instruction → Bool
+has_short_list (i.LoopList q end items) = nat_le 1 items && nat_le items 128
+has_short_list instruction = true

@@ -1,6 +1,7 @@
 //! The machine that runs the conditions of an image.
 #![tactic(auto)]
 
+mod acting;
 mod asked;
 mod beginning;
 mod giving;
