@@ -1,6 +1,6 @@
 -- What an instruction that can be run does, by its role.
 use Rattle.std.proofs.Common.{◌≡◌, ℕ, zero, suc, ◌+◌, ◌<◌, ◌≤◌, Bool, true, false, cond, List, [], ◌∷◌, ◌++◌, length, map, take, drop, reverse, Option, Some, None, refl, sym, ap, ◌∙◌, subst, arith}
-use Rattle.std.specs.Prelude.{nat_lt}
+use Rattle.std.specs.Prelude.{nat_lt, if◌then◌else◌}
 use Rattle.std.proofs.lemmas.Bool.Decides.{nat_tests}
 use Rattle.std.proofs.lemmas.List.{drop-take, reverse-append}
 use Rattle.yr_base.specs.declared.value.Kind.{Kind}
@@ -9,13 +9,15 @@ use Rattle.yr_values.specs.Values.{Value, Undefined, Number, Flag, Text}
 use Rattle.yr_values.specs.Quantifiers.{meets}
 use Rattle.yr_values.specs.declared.quantifier.Quantifier.{Quantifier}
 use Rattle.yr_answer.specs.Turns.{Turn, range_turns, item_turns, string_turns}
-use Rattle.yr_image.specs.Image.{members_of}
+use Rattle.yr_image.specs.Image.{Image, members_of}
+use Rattle.yr_machine.specs.Budget.{text_length, instruction_cost}
+use Rattle.yr_machine.proofs.ShortTexts.{AreShort}
 use Rattle.yr_image.specs.declared.instruction.QuantifierKind.{QuantifierKind}
 use Rattle.yr_image.specs.declared.instruction.Instruction.{Instruction}
 use Rattle.yr_image.specs.declared.instruction.Instruction.TheVariants as i
 use Rattle.yr_machine.specs.declared.block.Want.{Want}
 use Rattle.yr_machine.specs.declared.block.Want.TheVariants as want
-use Rattle.yr_machine.specs.Roles.{Role, plain, starts, role, numbers, quantity}
+use Rattle.yr_machine.specs.Roles.{Role, plain, starts, role, numbers, quantity, of_wants, two_of, external_kind, field_kind, call_kind}
 use Rattle.yr_machine.specs.Named.{names_there}
 use Rattle.yr_machine.specs.CodeWalk.{most_values, most_loops, kept_by, below_body}
 use Rattle.yr_machine.specs.Operations.{Context, quantifier_of, value_given}
@@ -24,6 +26,7 @@ use Rattle.yr_machine.specs.Counts.{NotStuck}
 use Rattle.yr_vm.specs.Given.{given}
 use Rattle.yr_vm.specs.Items.{IsItem, AreItems}
 use Rattle.yr_vm.specs.States.{IsThere, MayBegin}
+use Rattle.yr_vm.specs.Taken.{IsOther}
 use Rattle.yr_vm.proofs.OperandLemmas.{operands-there, operands-known, known, is-there}
 use Rattle.yr_vm.proofs.SetLemmas.{front-two}
 
@@ -38,7 +41,7 @@ pub acts : (context : Context) (truths : List Bool) (instr : Instruction) (m : M
 acts context truths instr m n =
     by-named (names_there context.image (length truths) (map is_member (present_turns m.loops)) instr) (act_by context truths (role context.image instr) instr m) n
 
-less-at : (a b : ℕ) → nat_lt a b ≡ true → a < b
+pub less-at : (a b : ℕ) → nat_lt a b ≡ true → a < b
 less-at a b e = grind (arith, nat_tests)
 
 gives : (place : ℕ) (loops : List OpenLoop) (below : List Value) (v : Value) → NotStuck (give place loops below v) →
@@ -184,3 +187,76 @@ items-reverse (x ∷ xs) a =
 
 pub items-are : (items : ℕ) (wants : List Want) (stack : List Value) → IsThere (take_values (numbers items wants) stack) → AreItems (reverse (take items stack))
 items-are items wants stack h = items-reverse (take items stack) (items-there items wants stack h)
+
+-- an instruction that is known acts by its role
+pub acts-as : (context : Context) (truths : List Bool) (instr this : Instruction) (m : Machine) → instr ≡ this → NotStuck (act context truths (Some instr) m) →
+    (names_there context.image (length truths) (map is_member (present_turns m.loops)) this ≡ true)
+    × NotStuck (act_by context truths (role context.image this) this m)
+    × (act context truths (Some instr) m ≡ act_by context truths (role context.image this) this m)
+acts-as context truths instr this m is n =
+    let h : NotStuck (act context truths (Some this) m) = subst (λ j. NotStuck (act context truths (Some j) m)) is n in
+    let a = acts context truths this m h in
+    (a.0, subst NotStuck a.1 h, ap (λ j. act context truths (Some j) m) is ∙ a.1)
+
+pub one-of : (stack : List Value) → 1 ≤ length stack → (v : Value) × (take 1 stack ≡ v ∷ [])
+one-of [] le = absurd (omega arith)
+one-of (v ∷ []) le = (v, refl)
+one-of (v ∷ w ∷ stack) le = (v, refl)
+
+pub two-of : (stack : List Value) → 2 ≤ length stack → (w : Value) × (v : Value) × (take 2 stack ≡ w ∷ v ∷ [])
+two-of [] le = absurd (omega arith)
+two-of (w ∷ []) le = absurd (omega arith)
+two-of (w ∷ v ∷ []) le = (w, v, refl)
+two-of (w ∷ v ∷ u ∷ stack) le = (w, v, refl)
+
+pub top-short : (x : ℕ) (stack : List Value) → 1 ≤ length stack → AreShort x stack → (v : Value) × (take 1 stack ≡ v ∷ []) × (text_length v ≤ x)
+top-short x [] le s = absurd (omega arith)
+top-short x (v ∷ []) le s = (v, refl, s.0)
+top-short x (v ∷ w ∷ stack) le s = (v, refl, s.0)
+
+pub costs-one : (image : Image) (x : ℕ) (instr : Instruction) → 1 ≤ instruction_cost image x instr
+costs-one image x (i.Of f q first rows) = omega arith
+costs-one image x (i.Matches c) = omega arith
+costs-one image x instr = omega arith
+
+-- an instruction that is none of these takes values and gives one
+pub given-role : (image : Image) (instr : Instruction) → (instr ≡ i.End → ⊥) → ((c : ℕ) → instr ≡ i.Matches c → ⊥)
+    → ((c : ℕ) → instr ≡ i.SkipFalse c → ⊥) → ((c : ℕ) → instr ≡ i.SkipTrue c → ⊥)
+    → ((q : QuantifierKind) (c : ℕ) → instr ≡ i.LoopRange q c → ⊥) → ((q : QuantifierKind) (c d : ℕ) → instr ≡ i.LoopList q c d → ⊥)
+    → ((q : QuantifierKind) (c first rows : ℕ) → instr ≡ i.LoopStrings q c first rows → ⊥) → ((c : ℕ) → instr ≡ i.LoopEnd c → ⊥)
+    → (wants : List Want) × (k : Kind) × (role image instr ≡ plain wants k) × IsOther instr
+given-role image i.End e m sf st lr ll ls le = absurd (e refl)
+given-role image (i.Matches c) e m sf st lr ll ls le = absurd (m c refl)
+given-role image (i.SkipFalse c) e m sf st lr ll ls le = absurd (sf c refl)
+given-role image (i.SkipTrue c) e m sf st lr ll ls le = absurd (st c refl)
+given-role image (i.LoopRange q c) e m sf st lr ll ls le = absurd (lr q c refl)
+given-role image (i.LoopList q c d) e m sf st lr ll ls le = absurd (ll q c d refl)
+given-role image (i.LoopStrings q c first rows) e m sf st lr ll ls le = absurd (ls q c first rows refl)
+given-role image (i.LoopEnd c) e m sf st lr ll ls le = absurd (le c refl)
+given-role image (i.Number n) e m sf st lr ll ls le = ([], kind.Number, refl, tt)
+given-role image (i.Text p n) e m sf st lr ll ls le = ([], kind.Text, refl, tt)
+given-role image (i.Flag b) e m sf st lr ll ls le = ([], kind.Flag, refl, tt)
+given-role image i.FileSize e m sf st lr ll ls le = ([], kind.Number, refl, tt)
+given-role image (i.External c) e m sf st lr ll ls le = ([], external_kind image c, refl, tt)
+given-role image (i.Rule c) e m sf st lr ll ls le = ([], kind.Flag, refl, tt)
+given-role image (i.Var c) e m sf st lr ll ls le = ([], kind.Number, refl, tt)
+given-role image (i.Field x id) e m sf st lr ll ls le = (if x then numbers 1 [] else [], field_kind id, refl, tt)
+given-role image (i.Call id) e m sf st lr ll ls le = (numbers 2 [], call_kind id, refl, tt)
+given-role image (i.Has s) e m sf st lr ll ls le = ([], kind.Flag, refl, tt)
+given-role image (i.HasAt s) e m sf st lr ll ls le = (numbers 1 [], kind.Flag, refl, tt)
+given-role image (i.HasIn s) e m sf st lr ll ls le = (numbers 2 [], kind.Flag, refl, tt)
+given-role image (i.Count s) e m sf st lr ll ls le = ([], kind.Number, refl, tt)
+given-role image (i.CountIn s) e m sf st lr ll ls le = (numbers 2 [], kind.Number, refl, tt)
+given-role image (i.Offset s) e m sf st lr ll ls le = (numbers 1 [], kind.Number, refl, tt)
+given-role image (i.Length s) e m sf st lr ll ls le = (numbers 1 [], kind.Number, refl, tt)
+given-role image (i.Of f q first rows) e m sf st lr ll ls le = (of_wants f (quantity q), kind.Flag, refl, tt)
+given-role image (i.Read r) e m sf st lr ll ls le = (numbers 1 [], kind.Number, refl, tt)
+given-role image i.Negate e m sf st lr ll ls le = (numbers 1 [], kind.Number, refl, tt)
+given-role image i.Flip e m sf st lr ll ls le = (numbers 1 [], kind.Number, refl, tt)
+given-role image (i.Arith op) e m sf st lr ll ls le = (numbers 2 [], kind.Number, refl, tt)
+given-role image (i.Compare op k) e m sf st lr ll ls le = (two_of k, kind.Flag, refl, tt)
+given-role image (i.Test op) e m sf st lr ll ls le = (two_of kind.Text, kind.Flag, refl, tt)
+given-role image i.Not e m sf st lr ll ls le = (want.Any ∷ [], kind.Flag, refl, tt)
+given-role image i.Defined e m sf st lr ll ls le = (want.Any ∷ [], kind.Flag, refl, tt)
+given-role image i.Truth e m sf st lr ll ls le = (want.Any ∷ [], kind.Flag, refl, tt)
+given-role image i.Settle e m sf st lr ll ls le = (want.Of kind.Flag ∷ [], kind.Flag, refl, tt)

@@ -25,6 +25,9 @@ by_test : (b : Bool) (P : Type 0) → (b ≡ true → P) → (b ≡ false → P)
 by_test true P f g = f refl
 by_test false P f g = g refl
 
+not-zero : (n : ℕ) → (suc n == 0) ≡ false
+not-zero n = grind (arith, nat_tests)
+
 less-at : (a b : ℕ) → nat_lt a b ≡ true → a < b
 less-at a b e = grind (arith, nat_tests)
 
@@ -140,7 +143,7 @@ module _ (count : ℕ) where
       take-none (x ∷ xs) = refl
   members-among lists first (suc rows) n same e =
       let members = take (suc rows) (drop first lists) in
-      let some : (suc rows == 0) ≡ false = refl in
+      let some : (suc rows == 0) ≡ false = not-zero rows in
       let h : (nat_le (first + suc rows) (length lists) && all_below n members) ≡ true =
       ap (λ b. b || (nat_le (first + suc rows) (length lists) && all_below n members)) (sym some) ∙ e in
       strings-among members (ap (λ k. all_below k members) same ∙ (both-true (nat_le (first + suc rows) (length lists)) (all_below n members) h).1)
