@@ -11,3 +11,4 @@ pub mod ItemLemmas
 pub mod ActLemmas
 pub mod AmongLemmas
 pub mod ListLemmas
+pub mod StepLemmas

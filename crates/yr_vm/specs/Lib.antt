@@ -10,3 +10,4 @@ pub mod Taken
 pub mod Fields
 pub mod States
 pub mod Items
+pub mod Running

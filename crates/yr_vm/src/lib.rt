@@ -14,6 +14,7 @@ mod open_loop;
 mod operators;
 mod programs;
 mod quantity;
+mod running;
 mod sets;
 mod skipping;
 mod stack;
