@@ -36,17 +36,16 @@ pub fn act<'a, M: Modules, L: Ledger>(
     marks: &mut Marks,
     steps: &mut Steps<L>,
 ) -> Option<bool>
-    ghost occurs: { ℕ → List ℕ → Bool }
     requires near { state.old.place + 1 < 2 ^ 32 }
     requires wellformed { IsWellformed (shown_bytes world.now.image) }
     requires lists { length world.now.matches.now.lists ≡ length (image_of world.now.image).strings }
     requires externals { length world.now.externals.now ≡ length (image_of world.now.image).externals }
-    requires knows { KnowsPrograms (context_of M.field_of M.call_of world.now occurs) }
+    requires knows { (occurs : ℕ → List ℕ → Bool) × KnowsPrograms (context_of M.field_of M.call_of world.now occurs) }
     requires room { HasRoom (image_of world.now.image) marks.old.room }
     requires among { AreAmong (length world.now.matches.now.lists) (presents_shown state.old.loops) }
     requires short { has_short_list instruction ≡ true }
-    requires goes { NotStuck (act (context_of M.field_of M.call_of world.now occurs) (truths_shown truths.now) (Some instruction) (seen (image_of world.now.image).lists state.old)) }
-    ensures outcome { outcome_of (image_of world.now.image).lists result state.new
+    requires goes { (occurs : ℕ → List ℕ → Bool) → KnowsPrograms (context_of M.field_of M.call_of world.now occurs) → NotStuck (act (context_of M.field_of M.call_of world.now occurs) (truths_shown truths.now) (Some instruction) (seen (image_of world.now.image).lists state.old)) }
+    ensures outcome { (occurs : ℕ → List ℕ → Bool) → KnowsPrograms (context_of M.field_of M.call_of world.now occurs) → outcome_of (image_of world.now.image).lists result state.new
         ≡ act (context_of M.field_of M.call_of world.now occurs) (truths_shown truths.now) (Some instruction) (seen (image_of world.now.image).lists state.old) }
     ensures room { marks.new.room ≡ marks.old.room }
     ensures least { steps.old ≤ steps.new }

@@ -37,22 +37,21 @@ fn step<'a, M: Modules, L: Ledger>(
     marks: &mut Marks,
     steps: &mut Steps<L>,
 ) -> Option<bool>
-    ghost occurs: { ℕ → List ℕ → Bool }
     requires small { length (image_of world.now.image).code < 2 ^ 32 }
     requires wellformed { IsWellformed (shown_bytes world.now.image) }
     requires lists { length world.now.matches.now.lists ≡ length (image_of world.now.image).strings }
     requires externals { length world.now.externals.now ≡ length (image_of world.now.image).externals }
-    requires knows { KnowsPrograms (context_of M.field_of M.call_of world.now occurs) }
+    requires knows { (occurs : ℕ → List ℕ → Bool) × KnowsPrograms (context_of M.field_of M.call_of world.now occurs) }
     requires room { HasRoom (image_of world.now.image) marks.old.room }
     requires among { AreAmong (length world.now.matches.now.lists) (presents_shown state.old.loops) }
-    requires goes { NotStuck (step (context_of M.field_of M.call_of world.now occurs) (truths_shown truths.now)
+    requires goes { (occurs : ℕ → List ℕ → Bool) → KnowsPrograms (context_of M.field_of M.call_of world.now occurs) → NotStuck (step (context_of M.field_of M.call_of world.now occurs) (truths_shown truths.now)
         (code_of (image_of world.now.image) rule.now) (seen (image_of world.now.image).lists state.old)) }
-    ensures outcome { outcome_of (image_of world.now.image).lists result state.new
+    ensures outcome { (occurs : ℕ → List ℕ → Bool) → KnowsPrograms (context_of M.field_of M.call_of world.now occurs) → outcome_of (image_of world.now.image).lists result state.new
         ≡ step (context_of M.field_of M.call_of world.now occurs) (truths_shown truths.now)
         (code_of (image_of world.now.image) rule.now) (seen (image_of world.now.image).lists state.old) }
     ensures room { marks.new.room ≡ marks.old.room }
     ensures least { steps.old + 1 ≤ steps.new }
-    ensures most { (x : ℕ) → AreShort x state.old.stack → steps.new ≤ steps.old
+    ensures most { (occurs : ℕ → List ℕ → Bool) (x : ℕ) → AreShort x state.old.stack → steps.new ≤ steps.old
         + cost_there (context_of M.field_of M.call_of world.now occurs) (truths_shown truths.now) (code_of (image_of world.now.image) rule.now) x state.old.place }
 {
     steps.tick();
@@ -60,5 +59,34 @@ fn step<'a, M: Modules, L: Ledger>(
     match row.read() {
         None => unreachable!(),
         Some(instruction) => act(state, world, truths, instruction, marks, steps),
+    }
+}
+
+/// The truth of a rule's code, for the truths of the rules before it.
+pub fn run_code<'a, M: Modules, L: Ledger>(
+    state: &mut State<'a>,
+    world: &World<'a, '_, M>,
+    truths: &[Truth],
+    rule: &RuleRow,
+    marks: &mut Marks,
+    steps: &mut Steps<L>,
+) -> bool
+    requires small { length (image_of world.now.image).code < 2 ^ 32 }
+    requires wellformed { IsWellformed (shown_bytes world.now.image) }
+    requires lists { length world.now.matches.now.lists ≡ length (image_of world.now.image).strings }
+    requires externals { FitExternals (image_of world.now.image) (map shown world.now.externals.now) }
+    requires modules { FitModules world.now.file.now (M.field_of world.now.modules.now) (M.call_of world.now.modules.now) }
+    requires knows { (occurs : ℕ → List ℕ → Bool) × KnowsPrograms (context_of M.field_of M.call_of world.now occurs) }
+    requires room { HasRoom (image_of world.now.image) marks.old.room }
+    requires code { IsWellformedCode (image_of world.now.image) (length truths.now) (code_of (image_of world.now.image) rule.now) }
+    ensures truth { (occurs : ℕ → List ℕ → Bool) → KnowsPrograms (context_of M.field_of M.call_of world.now occurs) → IsTruth (context_of M.field_of M.call_of world.now occurs) (truths_shown truths.now)
+        (code_of (image_of world.now.image) rule.now) result steps.old steps.new }
+    ensures room { marks.new.room ≡ marks.old.room }
+{
+    state.begin();
+    loop {
+        if let Some(truth) = step(state, world, truths, rule, marks, steps) {
+            return truth;
+        }
     }
 }

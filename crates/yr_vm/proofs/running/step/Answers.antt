@@ -15,107 +15,121 @@ use Rattle.yr_vm.proofs.running.step.Goals as goal
 
 pub overflow_add-rule : goal.overflow_add-rule
 overflow_add-rule g c =
+    let k = c.requires.knows in
+    let occurs = k.0 in
+    let goes = c.requires.goes occurs k.1 in
     let world = c.args.world.now in
     let image = image_of world.image in
-    let context = context_of g.M.Modules.field_of g.M.Modules.call_of world g.occurs in
+    let context = context_of g.M.Modules.field_of g.M.Modules.call_of world occurs in
     let truths = truths_shown c.args.truths.now in
     let rule = c.args.rule.now in
     let rows = code_of image rule in
     let s = c.args.state.now in
     let m = seen image.lists s in
-    let goes = c.requires.1.1.1.1.1.1.1.1.1 in
     let there = row-there context truths rows m goes in
     let inside : rule.first_code + s.place < length image.code = row-inside image.code rule.first_code rule.code_rows s.place there.0 there.1 in
-    let small : length image.code < 2 ^ 32 = c.requires.1.1.0 in
-    omega (arith, inside, small)
+    omega (arith, inside, c.requires.small)
 
 pub code-row-requires : goal.code-row-requires
 code-row-requires g c =
+    let k = c.requires.knows in
+    let occurs = k.0 in
+    let goes = c.requires.goes occurs k.1 in
     let world = c.args.world.now in
     let image = image_of world.image in
-    let context = context_of g.M.Modules.field_of g.M.Modules.call_of world g.occurs in
+    let context = context_of g.M.Modules.field_of g.M.Modules.call_of world occurs in
     let truths = truths_shown c.args.truths.now in
     let rule = c.args.rule.now in
     let rows = code_of image rule in
     let s = c.args.state.now in
     let m = seen image.lists s in
-    let goes = c.requires.1.1.1.1.1.1.1.1.1 in
     let there = row-there context truths rows m goes in
-    let inside : rule.first_code + s.place < length image.code = row-inside image.code rule.first_code rule.code_rows s.place there.0 there.1 in
-    let small : length image.code < 2 ^ 32 = c.requires.1.1.0 in
-    inside
+    row-inside image.code rule.first_code rule.code_rows s.place there.0 there.1
 
 pub unreachable-requires : goal.unreachable-requires
 unreachable-requires g c =
+    let k = c.requires.knows in
+    let occurs = k.0 in
+    let goes = c.requires.goes occurs k.1 in
     let world = c.args.world.now in
     let image = image_of world.image in
-    let context = context_of g.M.Modules.field_of g.M.Modules.call_of world g.occurs in
+    let context = context_of g.M.Modules.field_of g.M.Modules.call_of world occurs in
     let truths = truths_shown c.args.truths.now in
     let rule = c.args.rule.now in
     let rows = code_of image rule in
     let s = c.args.state.now in
     let m = seen image.lists s in
-    let goes = c.requires.1.1.1.1.1.1.1.1.1 in
     let there = row-there context truths rows m goes in
-    let inside : rule.first_code + s.place < length image.code = row-inside image.code rule.first_code rule.code_rows s.place there.0 there.1 in
-    let small : length image.code < 2 ^ 32 = c.requires.1.1.0 in
     let e : instruction_at rows s.place ≡ None =
     row-same image.code rule.first_code rule.code_rows s.place there.0 there.1 c.code-row.result c.code-row.ensures ∙ sym c.read.ensures ∙ c.in-None.is in
     subst (λ (o : Option Instruction). NotStuck (act context truths o m)) e goes
 
-pub act-requires : goal.act-requires
-act-requires g c κs within =
+pub act-requires-clause-near : goal.act-requires-clause-near
+act-requires-clause-near g c =
+    let k = c.requires.knows in
+    let occurs = k.0 in
+    let goes = c.requires.goes occurs k.1 in
     let world = c.args.world.now in
     let image = image_of world.image in
-    let context = context_of g.M.Modules.field_of g.M.Modules.call_of world g.occurs in
+    let context = context_of g.M.Modules.field_of g.M.Modules.call_of world occurs in
     let truths = truths_shown c.args.truths.now in
     let rule = c.args.rule.now in
     let rows = code_of image rule in
     let s = c.args.state.now in
     let m = seen image.lists s in
-    let goes = c.requires.1.1.1.1.1.1.1.1.1 in
     let there = row-there context truths rows m goes in
     let inside : rule.first_code + s.place < length image.code = row-inside image.code rule.first_code rule.code_rows s.place there.0 there.1 in
-    let small : length image.code < 2 ^ 32 = c.requires.1.1.0 in
+    omega (arith, inside, c.requires.small)
+
+pub act-requires-clause-short : goal.act-requires-clause-short
+act-requires-clause-short g c = row-short c.code-row.result c.in-Some.instruction (sym c.read.ensures ∙ c.in-Some.is)
+
+pub act-requires-clause-goes : goal.act-requires-clause-goes
+act-requires-clause-goes g c occurs knows =
+    let goes = c.requires.goes occurs knows in
+    let world = c.args.world.now in
+    let image = image_of world.image in
+    let context = context_of g.M.Modules.field_of g.M.Modules.call_of world occurs in
+    let truths = truths_shown c.args.truths.now in
+    let rule = c.args.rule.now in
+    let rows = code_of image rule in
+    let s = c.args.state.now in
+    let m = seen image.lists s in
+    let there = row-there context truths rows m goes in
     let e : instruction_at rows s.place ≡ Some c.in-Some.instruction =
     row-same image.code rule.first_code rule.code_rows s.place there.0 there.1 c.code-row.result c.code-row.ensures ∙ sym c.read.ensures ∙ c.in-Some.is in
-    let r = c.requires.1.1.1 in
-    (within.0, (within.1, (omega (arith, inside, small), (r.0, (r.1.0, (r.1.1.0, (r.1.1.1.0, (r.1.1.1.1.0, (r.1.1.1.1.1.0,
-    (row-short c.code-row.result c.in-Some.instruction (sym c.read.ensures ∙ c.in-Some.is),
-    subst (λ (o : Option Instruction). NotStuck (act context truths o m)) e goes))))))))))
+    subst (λ (o : Option Instruction). NotStuck (act context truths o m)) e goes
 
 pub returns-clause-outcome : goal.returns-clause-outcome
-returns-clause-outcome g c =
+returns-clause-outcome g c occurs knows =
+    let goes = c.requires.goes occurs knows in
     let world = c.args.world.now in
     let image = image_of world.image in
-    let context = context_of g.M.Modules.field_of g.M.Modules.call_of world g.occurs in
+    let context = context_of g.M.Modules.field_of g.M.Modules.call_of world occurs in
     let truths = truths_shown c.args.truths.now in
     let rule = c.args.rule.now in
     let rows = code_of image rule in
     let s = c.args.state.now in
     let m = seen image.lists s in
-    let goes = c.requires.1.1.1.1.1.1.1.1.1 in
     let there = row-there context truths rows m goes in
-    let inside : rule.first_code + s.place < length image.code = row-inside image.code rule.first_code rule.code_rows s.place there.0 there.1 in
-    let small : length image.code < 2 ^ 32 = c.requires.1.1.0 in
     let e : instruction_at rows s.place ≡ Some c.in-Some.instruction =
     row-same image.code rule.first_code rule.code_rows s.place there.0 there.1 c.code-row.result c.code-row.ensures ∙ sym c.read.ensures ∙ c.in-Some.is in
-    c.act.ensures.outcome ∙ sym (ap (λ (o : Option Instruction). act context truths o m) e)
+    c.act.ensures.outcome occurs knows ∙ sym (ap (λ (o : Option Instruction). act context truths o m) e)
 
 pub returns-clause-most : goal.returns-clause-most
-returns-clause-most g c x short =
+returns-clause-most g c other x short =
+    let k = c.requires.knows in
+    let occurs = k.0 in
+    let goes = c.requires.goes occurs k.1 in
     let world = c.args.world.now in
     let image = image_of world.image in
-    let context = context_of g.M.Modules.field_of g.M.Modules.call_of world g.occurs in
+    let context = context_of g.M.Modules.field_of g.M.Modules.call_of world occurs in
     let truths = truths_shown c.args.truths.now in
     let rule = c.args.rule.now in
     let rows = code_of image rule in
     let s = c.args.state.now in
     let m = seen image.lists s in
-    let goes = c.requires.1.1.1.1.1.1.1.1.1 in
     let there = row-there context truths rows m goes in
-    let inside : rule.first_code + s.place < length image.code = row-inside image.code rule.first_code rule.code_rows s.place there.0 there.1 in
-    let small : length image.code < 2 ^ 32 = c.requires.1.1.0 in
     let e : instruction_at rows s.place ≡ Some c.in-Some.instruction =
     row-same image.code rule.first_code rule.code_rows s.place there.0 there.1 c.code-row.result c.code-row.ensures ∙ sym c.read.ensures ∙ c.in-Some.is in
     let cost = ap (λ (o : Option Instruction). option_map_or (instruction_cost image x) o 0) e in
