@@ -19,7 +19,10 @@ use Rattle.yr_vm.specs.Taken.{AreAmong}
 use Rattle.yr_vm.specs.Worlds.{context_of}
 use Rattle.yr_vm.proofs.AmongLemmas.{AreKept, presents-among, step-kept}
 use Rattle.yr_vm.proofs.LoopLemmas.{same-presents}
+use Rattle.yr_machine.specs.ImageRun.{KnowsPrograms}
+use Rattle.yr_vm.proofs.running.run_code.Given.{Over}
 use Rattle.yr_vm.proofs.running.run_code.Goals as goal
+use Rattle.yr_vm.proofs.running.run_code.Goals.{In_default}
 
 pub loop-truth-init : goal.loop-truth-init
 loop-truth-init g c =
@@ -105,14 +108,62 @@ loop-truth-smaller g c =
     let m = seen image.lists s in
     let before = c.args.steps.now in
     let now = c.loop-truth.steps in
-    let short = c.loop-truth.invariant.1 in
-    let l = c.loop-truth.invariant.0 occurs knows in
-    let q : step context truths rows m ≡ going (seen image.lists c.step.new.state) =
-    sym (c.step.ensures.outcome occurs knows) ∙ ap (λ r. outcome_of image.lists r c.step.new.state) ? in
-    let next = lives_next context truths rows x most most before now m l c.step.new.steps (seen image.lists c.step.new.state) c.step.ensures.least (c.step.ensures.most occurs x short) q in
+    let later = c.step.new.steps in
+    let m1 = seen image.lists c.step.new.state in
+    let q : step context truths rows m ≡ going m1 =
+    sym (c.step.ensures.outcome occurs knows) ∙ ap (λ (r : Option Bool). outcome_of image.lists r c.step.new.state) c.in_default.is in
+    let next : Lives context truths rows x most most before later m1 =
+    lives_next context truths rows x most most before now m (c.loop-truth.invariant.0 occurs knows) later m1 c.step.ensures.least
+    (c.step.ensures.most occurs x c.loop-truth.invariant.1) q in
     omega (arith, next.greatest, c.step.ensures.least)
+
+lives-on : (g : Over) (c : In_default g) (occurs : ℕ → List ℕ → Bool) → (knows : KnowsPrograms (context_of g.M.Modules.field_of g.M.Modules.call_of c.args.world.now occurs)) →
+    Lives (context_of g.M.Modules.field_of g.M.Modules.call_of c.args.world.now occurs) (truths_shown c.args.truths.now)
+    (code_of (image_of c.args.world.now.image) c.args.rule.now) (longest_text (context_of g.M.Modules.field_of g.M.Modules.call_of c.args.world.now occurs))
+    (code_cost (image_of c.args.world.now.image) (longest_text (context_of g.M.Modules.field_of g.M.Modules.call_of c.args.world.now occurs)) (code_of (image_of c.args.world.now.image) c.args.rule.now))
+    (code_cost (image_of c.args.world.now.image) (longest_text (context_of g.M.Modules.field_of g.M.Modules.call_of c.args.world.now occurs)) (code_of (image_of c.args.world.now.image) c.args.rule.now))
+    c.args.steps.now c.step.new.steps (seen (image_of c.args.world.now.image).lists c.step.new.state)
+lives-on g c occurs knows =
+    let world = c.args.world.now in
+    let image = image_of world.image in
+    let context = context_of g.M.Modules.field_of g.M.Modules.call_of world occurs in
+    let truths = truths_shown c.args.truths.now in
+    let rows = code_of image c.args.rule.now in
+    let x = longest_text context in
+    let most = code_cost image x rows in
+    let s = c.loop-truth.state in
+    let m = seen image.lists s in
+    let before = c.args.steps.now in
+    let now = c.loop-truth.steps in
+    let later = c.step.new.steps in
+    let m1 = seen image.lists c.step.new.state in
+    let q : step context truths rows m ≡ going m1 =
+    sym (c.step.ensures.outcome occurs knows) ∙ ap (λ (r : Option Bool). outcome_of image.lists r c.step.new.state) c.in_default.is in
+    let next : Lives context truths rows x most most before later m1 =
+    lives_next context truths rows x most most before now m (c.loop-truth.invariant.0 occurs knows) later m1 c.step.ensures.least
+    (c.step.ensures.most occurs x c.loop-truth.invariant.1) q in
+    next
 
 pub loop-truth-preserved : goal.loop-truth-preserved
 loop-truth-preserved g c =
-    let d = c.in_default in
-    ?
+    let occurs = c.requires.knows.0 in
+    let knows = c.requires.knows.1 in
+    let world = c.args.world.now in
+    let image = image_of world.image in
+    let context = context_of g.M.Modules.field_of g.M.Modules.call_of world occurs in
+    let truths = truths_shown c.args.truths.now in
+    let rows = code_of image c.args.rule.now in
+    let x = longest_text context in
+    let most = code_cost image x rows in
+    let s = c.loop-truth.state in
+    let m = seen image.lists s in
+    let before = c.args.steps.now in
+    let now = c.loop-truth.steps in
+    let later = c.step.new.steps in
+    let m1 = seen image.lists c.step.new.state in
+    let q : step context truths rows m ≡ going m1 =
+    sym (c.step.ensures.outcome occurs knows) ∙ ap (λ (r : Option Bool). outcome_of image.lists r c.step.new.state) c.in_default.is in
+    (lives-on g c,
+    step-short x context c.requires.externals c.requires.modules (text-bounds context) truths rows m m1 q c.loop-truth.invariant.1,
+    step-kept (length world.matches.now.lists) context truths c.requires.lists rows m m1 q c.loop-truth.invariant.2,
+    c.step.ensures.room ∙ c.loop-truth.invariant.3)
