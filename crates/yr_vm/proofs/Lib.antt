@@ -12,3 +12,4 @@ pub mod ActLemmas
 pub mod AmongLemmas
 pub mod ListLemmas
 pub mod StepLemmas
+pub mod EvaluationLemmas

@@ -11,3 +11,4 @@ pub mod Fields
 pub mod States
 pub mod Items
 pub mod Running
+pub mod Evaluation

@@ -4,6 +4,7 @@
 mod acting;
 mod asked;
 mod beginning;
+mod evaluating;
 mod giving;
 mod listing;
 mod looping;
@@ -23,3 +24,5 @@ mod strings;
 mod turning;
 mod turns;
 mod world;
+
+pub use evaluating::evaluate;

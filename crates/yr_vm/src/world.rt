@@ -7,6 +7,7 @@ use yr_values::Modules;
 
 /// What the code of an image looks at: the image, the matches of its strings, the file, the values of its external
 /// variables, and its modules.
+#[derive(Drop)]
 pub struct World<'a, 'w, M: Modules> {
     pub image: ImageView<'a>,
     pub matches: &'w Matches,

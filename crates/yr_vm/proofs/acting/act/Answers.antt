@@ -12,7 +12,7 @@ use Rattle.yr_machine.specs.declared.block.Want.TheVariants as want
 use Rattle.yr_machine.specs.Roles.{quantity}
 use Rattle.yr_machine.specs.Budget.{instruction_cost}
 use Rattle.yr_machine.specs.Counts.{NotStuck}
-use Rattle.yr_machine.specs.Machine.{going, machine, begin, is_member, present_turns, act_by}
+use Rattle.yr_machine.specs.Machine.{take_values, branch, flag_of, going, machine, begin, is_member, present_turns, act_by}
 use Rattle.yr_machine.specs.Named.{names_there}
 use Rattle.yr_machine.specs.Operations.{quantifier_of, value_given}
 use Rattle.yr_vm.specs.Given.{given}
@@ -23,6 +23,8 @@ use Rattle.yr_vm.specs.States.{seen, outcome_of, turn_outcome, MayBegin}
 use Rattle.yr_vm.specs.Worlds.{context_of}
 use Rattle.yr_vm.proofs.ActLemmas.{acts, given-role, acts-as, range-goes, list-goes, strings-goes, plain-goes, may-begin, items-are, less-at, two-of, top-short, costs-one}
 use Rattle.yr_vm.proofs.LoopLemmas.{same-length, same-presents}
+use Rattle.yr_vm.proofs.OperandLemmas.{is-there}
+use Rattle.yr_vm.proofs.MemberLemmas.{rows-there}
 use Rattle.yr_vm.proofs.acting.act.Goals as goal
 
 pub returns-in-End-clause-outcome : goal.returns-in-End-clause-outcome
@@ -324,3 +326,123 @@ returns-in_default-clause-outcome g c occurs knows =
 
 pub returns-in_default-clause-most : goal.returns-in_default-clause-most
 returns-in_default-clause-most g c x short = omega (arith, costs-one (image_of c.args.world.now.image) x c.args.instruction)
+
+pub finish-requires : goal.finish-requires
+finish-requires g c =
+    let occurs = c.requires.knows.0 in
+    let goes = c.requires.goes occurs c.requires.knows.1 in
+    let world = c.args.world.now in
+    let context = context_of g.M.Modules.field_of g.M.Modules.call_of world occurs in
+    let truths = truths_shown c.args.truths.now in
+    let s = c.args.state.now in
+    let lists = (image_of world.image).lists in
+    let m = seen lists s in
+    let a = acts-as context truths c.args.instruction (i.End) m c.in-End.is goes in
+    a.1
+
+pub skip-requires-clause-flag : goal.skip-requires-clause-flag
+skip-requires-clause-flag g c =
+    let occurs = c.requires.knows.0 in
+    let goes = c.requires.goes occurs c.requires.knows.1 in
+    let world = c.args.world.now in
+    let context = context_of g.M.Modules.field_of g.M.Modules.call_of world occurs in
+    let truths = truths_shown c.args.truths.now in
+    let s = c.args.state.now in
+    let lists = (image_of world.image).lists in
+    let m = seen lists s in
+    let a = acts-as context truths c.args.instruction (i.SkipFalse c.in-SkipFalse.end) m c.in-SkipFalse.is goes in
+    is-there (take_values (want.Of kind.Flag ∷ []) s.stack)
+    (λ (operands below : List Value). branch (i.SkipFalse c.in-SkipFalse.end) (flag_of operands) s.place below m.loops) a.1
+
+pub returns-in-SkipFalse-clause-outcome : goal.returns-in-SkipFalse-clause-outcome
+returns-in-SkipFalse-clause-outcome g c occurs knows =
+    let goes = c.requires.goes occurs knows in
+    let world = c.args.world.now in
+    let context = context_of g.M.Modules.field_of g.M.Modules.call_of world occurs in
+    let truths = truths_shown c.args.truths.now in
+    let s = c.args.state.now in
+    let lists = (image_of world.image).lists in
+    let m = seen lists s in
+    let a = acts-as context truths c.args.instruction (i.SkipFalse c.in-SkipFalse.end) m c.in-SkipFalse.is goes in
+    c.skip.ensures lists ∙ sym a.2
+
+pub skip-requires-in-SkipTrue-clause-flag : goal.skip-requires-in-SkipTrue-clause-flag
+skip-requires-in-SkipTrue-clause-flag g c =
+    let occurs = c.requires.knows.0 in
+    let goes = c.requires.goes occurs c.requires.knows.1 in
+    let world = c.args.world.now in
+    let context = context_of g.M.Modules.field_of g.M.Modules.call_of world occurs in
+    let truths = truths_shown c.args.truths.now in
+    let s = c.args.state.now in
+    let lists = (image_of world.image).lists in
+    let m = seen lists s in
+    let a = acts-as context truths c.args.instruction (i.SkipTrue c.in-SkipTrue.end) m c.in-SkipTrue.is goes in
+    is-there (take_values (want.Of kind.Flag ∷ []) s.stack)
+    (λ (operands below : List Value). branch (i.SkipTrue c.in-SkipTrue.end) (flag_of operands) s.place below m.loops) a.1
+
+pub returns-in-SkipTrue-clause-outcome : goal.returns-in-SkipTrue-clause-outcome
+returns-in-SkipTrue-clause-outcome g c occurs knows =
+    let goes = c.requires.goes occurs knows in
+    let world = c.args.world.now in
+    let context = context_of g.M.Modules.field_of g.M.Modules.call_of world occurs in
+    let truths = truths_shown c.args.truths.now in
+    let s = c.args.state.now in
+    let lists = (image_of world.image).lists in
+    let m = seen lists s in
+    let a = acts-as context truths c.args.instruction (i.SkipTrue c.in-SkipTrue.end) m c.in-SkipTrue.is goes in
+    c.skip-in-SkipTrue.ensures lists ∙ sym a.2
+
+pub begin_range-requires-clause-there : goal.begin_range-requires-clause-there
+begin_range-requires-clause-there g c =
+    let occurs = c.requires.knows.0 in
+    let goes = c.requires.goes occurs c.requires.knows.1 in
+    let world = c.args.world.now in
+    let context = context_of g.M.Modules.field_of g.M.Modules.call_of world occurs in
+    let truths = truths_shown c.args.truths.now in
+    let s = c.args.state.now in
+    let lists = (image_of world.image).lists in
+    let m = seen lists s in
+    let a = acts-as context truths c.args.instruction (i.LoopRange c.in-LoopRange.quantifier c.in-LoopRange.end) m c.in-LoopRange.is goes in
+    (range-goes context truths c.in-LoopRange.quantifier c.in-LoopRange.end m a.1).0
+
+pub begin_strings-requires-clause-rows : goal.begin_strings-requires-clause-rows
+begin_strings-requires-clause-rows g c some =
+    let occurs = c.requires.knows.0 in
+    let goes = c.requires.goes occurs c.requires.knows.1 in
+    let world = c.args.world.now in
+    let context = context_of g.M.Modules.field_of g.M.Modules.call_of world occurs in
+    let truths = truths_shown c.args.truths.now in
+    let s = c.args.state.now in
+    let lists = (image_of world.image).lists in
+    let m = seen lists s in
+    let a = acts-as context truths c.args.instruction (i.LoopStrings c.in-LoopStrings.quantifier c.in-LoopStrings.end c.in-LoopStrings.first c.in-LoopStrings.rows) m c.in-LoopStrings.is goes in
+    let o = c.in-LoopStrings in
+    subst (λ (bytes : List ℕ). o.first + o.rows ≤ length (outputs_of bytes)) (sym c.bytes_of.ensures)
+    (rows-there lists o.first o.rows (length context.image.strings) a.0 some)
+
+pub begin_strings-requires-clause-there : goal.begin_strings-requires-clause-there
+begin_strings-requires-clause-there g c =
+    let occurs = c.requires.knows.0 in
+    let goes = c.requires.goes occurs c.requires.knows.1 in
+    let world = c.args.world.now in
+    let context = context_of g.M.Modules.field_of g.M.Modules.call_of world occurs in
+    let truths = truths_shown c.args.truths.now in
+    let s = c.args.state.now in
+    let lists = (image_of world.image).lists in
+    let m = seen lists s in
+    let a = acts-as context truths c.args.instruction (i.LoopStrings c.in-LoopStrings.quantifier c.in-LoopStrings.end c.in-LoopStrings.first c.in-LoopStrings.rows) m c.in-LoopStrings.is goes in
+    let o = c.in-LoopStrings in
+    (strings-goes context truths o.quantifier o.end m o.first o.rows a.1).0
+
+pub test_program-requires-clause-there : goal.test_program-requires-clause-there
+test_program-requires-clause-there g c =
+    let occurs = c.requires.knows.0 in
+    let goes = c.requires.goes occurs c.requires.knows.1 in
+    let world = c.args.world.now in
+    let context = context_of g.M.Modules.field_of g.M.Modules.call_of world occurs in
+    let truths = truths_shown c.args.truths.now in
+    let s = c.args.state.now in
+    let lists = (image_of world.image).lists in
+    let m = seen lists s in
+    let a = acts-as context truths c.args.instruction (i.Matches c.in-Matches.c) m c.in-Matches.is goes in
+    (plain-goes context truths (i.Matches c.in-Matches.c) (want.Of kind.Text ∷ []) kind.Flag m a.1).0
