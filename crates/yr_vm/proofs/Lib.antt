@@ -1,0 +1,15 @@
+pub mod StackLemmas
+pub mod TurnLemmas
+pub mod LoopLemmas
+pub mod StringLemmas
+pub mod MemberLemmas
+pub mod SetLemmas
+pub mod ProgramLemmas
+pub mod NameLemmas
+pub mod OperandLemmas
+pub mod ItemLemmas
+pub mod ActLemmas
+pub mod AmongLemmas
+pub mod ListLemmas
+pub mod StepLemmas
+pub mod EvaluationLemmas

@@ -1,0 +1,14 @@
+pub mod Given
+pub mod Turns
+pub mod OpenLoops
+pub mod Strings
+pub mod Members
+pub mod Earlier
+pub mod Sets
+pub mod Worlds
+pub mod Taken
+pub mod Fields
+pub mod States
+pub mod Items
+pub mod Running
+pub mod Evaluation
