@@ -1,12 +1,12 @@
 -- Strings, externals, code and rules that are put one after another into an empty image make one that is built of the rules.
-use Rattle.std.proofs.Common.{◌≡◌, ℕ, ◌+◌, ◌*◌, ◌<◌, ◌≤◌, List, [], ◌∷◌, ◌++◌, length, map, is_some, Bool, true, false, true≢false, All, Option, Some, None, slice_get, get_or, refl, sym, ap, ap₂, ◌∙◌, subst, arith}
+use Rattle.std.proofs.Common.{◌≡◌, ℕ, ◌+◌, ◌<◌, ◌≤◌, List, [], ◌∷◌, length, map, is_some, true, true≢false, All, Option, Some, None, slice_get, get_or, refl, sym, ap, ◌∙◌, subst, arith}
 use Rattle.std.proofs.lemmas.List.{append-nil}
 use Rattle.std.proofs.lemmas.Option.{slice_get-get_or}
 use Rattle.yr_rules.specs.Kinds.{kind_of}
 use Rattle.yr_rules.specs.Wellformed.{IsWellformed}
 use Rattle.yr_listings.specs.Rules.{HasShortTexts}
 use Rattle.yr_rules.specs.Rules.{PlainRule, PlainRules}
-use Rattle.yr_rules.specs.Weight.{total, rule_weight, string_weight, external_weight, node_weight, weight_of}
+use Rattle.yr_rules.specs.Weight.{total, rule_weight}
 use Rattle.yr_image.specs.declared.rows.NoteRow.{NoteRow}
 use Rattle.yr_image.specs.Image.{Image}
 use Rattle.yr_image.specs.Encoding.{encoded_length}
@@ -19,7 +19,6 @@ use Rattle.yr_splits.proofs.ProgramLemmas.{no_programs, programs_stay}
 use Rattle.yr_splits.proofs.WholeLemmas.{stays}
 use Rattle.yr_listings.specs.declared.code_range.CodeRange.{CodeRange}
 use Rattle.yr_listings.specs.Notes.{SayNotes, external_note}
-use Rattle.yr_listings.specs.Codes.{range_end, FollowCodes}
 use Rattle.yr_listings.specs.Putting.{PutsExternals, PutsRules, listing_weight}
 use Rattle.yr_listings.proofs.NoteLemmas.{notes_stay}
 use Rattle.yr_compiling.specs.Built.{HasKind, HasRuleCode, IsBuilt, PutsCodes, condition_weight}

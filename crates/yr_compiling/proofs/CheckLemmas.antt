@@ -1,28 +1,26 @@
 -- A built image passes each check.
-use Rattle.std.proofs.Common.{◌≡◌, ◌≢◌, ℕ, zero, suc, ◌+◌, ◌*◌, ◌<◌, ◌≤◌, ◌==◌, ◌&&◌, ◌||◌, nat_lt, ⊎_elim, Bool, true, false, if◌then◌else◌, is_some, List, [], ◌∷◌, length, map, take, drop, All, Option, Some, None, slice_get, refl, sym, ap, ap₂, ◌∙◌, subst, true≢false, arith}
-use Rattle.std.specs.Option.{option_map_or, option_and_then}
+use Rattle.std.proofs.Common.{◌≡◌, ◌≢◌, ℕ, zero, suc, ◌==◌, nat_lt, Bool, true, false, if◌then◌else◌, is_some, List, [], ◌∷◌, length, map, take, drop, All, Option, Some, None, slice_get, refl, sym, ap, ap₂, ◌∙◌, subst, true≢false, arith}
+use Rattle.std.specs.Option.{option_map_or}
 use Rattle.std.proofs.lemmas.List.{length-map}
 use Rattle.std.proofs.lemmas.List.Elements.{All-head, All-tail}
-use Rattle.std.proofs.lemmas.Option.{none-some, same_Some, slice_get_within, slice_get_cases, option_and_then_some}
+use Rattle.std.proofs.lemmas.Option.{none-some, same_Some, slice_get_within, option_and_then_some}
 use Rattle.yr_base.specs.declared.value.Kind.{Kind}
 use Rattle.yr_base.specs.declared.value.Kind.TheVariants as kind
 use Rattle.yr_values.specs.Values as value
-use Rattle.yr_rules.specs.NodeTree.{NodeTree}
-use Rattle.yr_rules.specs.Rules.{PlainExternal, PlainString, PlainRule, PlainRules}
-use Rattle.yr_rules.specs.Kinds.{kind_of, external_kind}
+use Rattle.yr_rules.specs.Rules.{PlainExternal, PlainRule, PlainRules}
+use Rattle.yr_rules.specs.Kinds.{kind_of}
 use Rattle.yr_rules.specs.Fits.{Rows, Fits}
 use Rattle.yr_rules.specs.Ids.{HasIds}
 use Rattle.yr_rules.specs.Wellformed.{IsWellformed, IsGoodRule}
 use Rattle.yr_meaning.specs.Fitting.{ids_of}
 use Rattle.yr_image.specs.declared.rows.NoteRow.{NoteRow}
 use Rattle.yr_image.specs.declared.rows.RuleRow.{RuleRow}
-use Rattle.yr_image.specs.declared.rows.SplitRow.{SplitRow}
 use Rattle.yr_image.specs.declared.rows.CodeRow.{CodeRow}
 use Rattle.yr_image.specs.Image.{Image, code_of}
 use Rattle.yr_image.specs.ModuleTable.{field_row_of, call_row_of}
 use Rattle.yr_machine.specs.Roles.{kind_of_note}
 use Rattle.yr_machine.specs.Roles as role
-use Rattle.yr_machine.specs.Rows.{index_passes, row_passes, is_good_rule, is_good_without_rules, is_good_note, is_good_external, is_good_string, is_good_split, is_good_edge, is_good_output}
+use Rattle.yr_machine.specs.Rows.{index_passes, row_passes, is_good_rule, is_good_without_rules, is_good_split}
 use Rattle.yr_machine.specs.Names.{At, NamePasses}
 use Rattle.yr_machine.specs.CodeWalk.{code_fault, IsWellformedCode}
 use Rattle.yr_machine.specs.Automaton.{ProgramPasses, NodePasses}
@@ -39,13 +37,11 @@ use Rattle.yr_splits.proofs.WholeLemmas as split
 use Rattle.yr_splits.proofs.RangeLemmas as range
 use Rattle.yr_splits.proofs.NodeLemmas as node
 use Rattle.yr_splits.proofs.ProgramLemmas as program
-use Rattle.yr_listings.specs.declared.code_range.CodeRange.{CodeRange}
 use Rattle.yr_listings.specs.Notes.{Note, SaysValue, SaysNote, SayNotes, external_note}
-use Rattle.yr_listings.specs.Rules.{SaysRule}
 use Rattle.yr_listings.proofs.NoteLemmas.{say_count}
 use Rattle.yr_listings.proofs.PassLemmas as listing
 use Rattle.yr_listings.proofs.NameLemmas.{rule_names, note_names, external_names, mapped}
-use Rattle.yr_compiling.specs.Built.{HasRuleCode, IsBuilt, HaveIds}
+use Rattle.yr_compiling.specs.Built.{IsBuilt, HaveIds}
 
 pick : (b x y : Bool) → x ≡ true → y ≡ true → (if b then x else y) ≡ true
 pick true x y e f = e

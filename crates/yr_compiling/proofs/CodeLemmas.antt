@@ -1,11 +1,11 @@
 -- The code of rules that is put, rule after rule.
-use Rattle.std.proofs.Common.{◌≡◌, ℕ, zero, suc, ◌+◌, ◌*◌, ◌<◌, ◌≤◌, ◌⊎◌, inl, inr, List, [], ◌∷◌, ◌++◌, length, map, take, drop, Option, Some, slice_get, refl, sym, ap, ap₂, ◌∙◌, subst, arith}
+use Rattle.std.proofs.Common.{◌≡◌, ℕ, zero, suc, ◌+◌, ◌*◌, ◌<◌, ◌≤◌, ◌⊎◌, inl, inr, List, [], ◌∷◌, ◌++◌, length, take, drop, Option, Some, slice_get, refl, sym, ap, ◌∙◌, subst, arith}
 use Rattle.std.specs.Option.{option_map_or}
 use Rattle.std.proofs.lemmas.List.{length-append, append-nil}
-use Rattle.std.proofs.lemmas.Option.{none-some, same_Some, slice_get_within}
+use Rattle.std.proofs.lemmas.Option.{none-some, slice_get_within}
 use Rattle.yr_base.specs.declared.value.Kind.{Kind}
 use Rattle.yr_rules.specs.Rules.{PlainExternal, PlainRule}
-use Rattle.yr_rules.specs.Weight.{total, node_weight}
+use Rattle.yr_rules.specs.Weight.{total}
 use Rattle.yr_rules.specs.Kinds.{kind_of}
 use Rattle.yr_rules.specs.Fits.{Rows, Fits}
 use Rattle.yr_image.specs.declared.rows.CodeRow.{CodeRow}
@@ -25,7 +25,7 @@ use Rattle.yr_splits.specs.Programs.{AreProgramRows}
 use Rattle.yr_splits.proofs.GrowLemmas.{kept_range}
 use Rattle.yr_splits.proofs.PlacedLemmas.{push_place}
 use Rattle.yr_listings.specs.declared.code_range.CodeRange.{CodeRange}
-use Rattle.yr_listings.specs.Codes.{range_end, FollowCodes}
+use Rattle.yr_listings.specs.Codes.{range_end}
 use Rattle.yr_listings.proofs.NoteLemmas.{total-push}
 use Rattle.yr_compiling.specs.Built.{HasRuleCode, PutsCodes, condition_weight}
 

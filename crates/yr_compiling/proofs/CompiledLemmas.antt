@@ -1,19 +1,17 @@
 -- The encoding of tables that are built of rules is an image to which the rules may be compiled.
-use Rattle.std.proofs.Common.{◌≡◌, ◌≢◌, ℕ, zero, suc, ◌+◌, ◌*◌, ◌<◌, ◌≤◌, ◌↔◌, ℤ, Bool, true, IsTrue, List, [], ◌∷◌, length, map, All, Option, Some, option_map, slice_get, get_or, refl, sym, ap, ap₂, ◌∙◌, subst, arith}
+use Rattle.std.proofs.Common.{◌≡◌, ℕ, zero, suc, ◌↔◌, ℤ, Bool, true, IsTrue, List, [], ◌∷◌, length, map, All, option_map, slice_get, get_or, refl, sym, ap, ap₂, ◌∙◌, subst, arith}
 use Rattle.std.specs.Option.{option_map_or}
 use Rattle.std.proofs.lemmas.Option.{slice_get-get_or}
 use Rattle.yr_base.specs.Bytes.{AreBytes}
 use Rattle.yr_values.specs.Values.{Value, kind_of}
 use Rattle.yr_values.specs.Modules.{Suits}
 use Rattle.yr_answer.specs.declared.options.ReportOptions.{ReportOptions}
-use Rattle.yr_rules.specs.Rules.{PlainExternal, PlainRules}
+use Rattle.yr_rules.specs.Rules.{PlainRules}
 use Rattle.yr_rules.specs.Wellformed.{IsWellformed}
-use Rattle.yr_rules.specs.Weight.{weight_of}
 use Rattle.yr_meaning.specs.Fitting.{FitsKinds}
 use Rattle.yr_meaning.specs.Matches.{match_lists_of}
 use Rattle.yr_meaning.specs.Truths.{truths_of}
 use Rattle.yr_meaning.specs.Scan.{ModuleValues, scan_report}
-use Rattle.yr_image.specs.declared.fault.ImageFault.{ImageFault}
 use Rattle.yr_image.specs.declared.fault.ImageFault.TheVariants as fault
 use Rattle.yr_image.specs.declared.rows.SplitRow.{SplitRow}
 use Rattle.yr_image.specs.declared.tables.Tables.{Tables}
@@ -30,8 +28,7 @@ use Rattle.yr_machine.specs.Rows.{index_passes}
 use Rattle.yr_machine.specs.Names.{NamePasses}
 use Rattle.yr_machine.specs.Automaton.{ProgramPasses, NodePasses}
 use Rattle.yr_machine.specs.Operations.{Context}
-use Rattle.yr_machine.specs.Hits.{AreHits, hit_count}
-use Rattle.yr_machine.specs.ImageMatches.{AreImageMatches}
+use Rattle.yr_machine.specs.Hits.{hit_count}
 use Rattle.yr_machine.specs.ImageRun.{IsImageRun, KnowsPrograms, FitModules, Occurs}
 use Rattle.yr_machine.specs.Listing.{image_report}
 use Rattle.yr_emission.specs.Setting.{environment_of}
@@ -39,7 +36,7 @@ use Rattle.yr_splits.proofs.HitLemmas.{some_hits}
 use Rattle.yr_splits.proofs.LengthLemmas.{row_atom_long}
 use Rattle.yr_listings.proofs.ListedLemmas.{externals_shown}
 use Rattle.yr_code.specs.ImageReport.{ImageScan, IsImageReport, KeepsKinds}
-use Rattle.yr_code.specs.Preserves.{IsTarget, HaveKindsOf, PreservesReports, external_in, externals_in, most_image_bytes}
+use Rattle.yr_code.specs.Preserves.{IsTarget, HaveKindsOf, external_in, externals_in}
 use Rattle.yr_code.specs.AtomLengths.{HasLongAtom, KeepsAtomLengths}
 use Rattle.yr_code.specs.Shape.{IsTrie, IsCompiled}
 use Rattle.yr_compiling.specs.Built.{IsBuilt, HaveIds}

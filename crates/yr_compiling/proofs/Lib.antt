@@ -4,3 +4,4 @@ mod ReportLemmas
 mod CompiledLemmas
 mod CodeLemmas
 mod BuildLemmas
+pub mod IdLemmas

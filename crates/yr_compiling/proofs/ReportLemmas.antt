@@ -1,7 +1,6 @@
 -- The report of a built image on a file is that of the rules.
-use Rattle.std.proofs.Common.{◌≡◌, ℕ, ◌+◌, ◌*◌, ◌<◌, ◌≤◌, ◌↔◌, Bool, true, false, List, [], ◌∷◌, length, map, Some, slice_get, refl, sym, ap, ap₂, ◌∙◌, subst, arith}
+use Rattle.std.proofs.Common.{◌≡◌, ℕ, ◌+◌, ◌*◌, Bool, true, false, List, [], refl, ap, ap₂, ◌∙◌}
 use Rattle.yr_base.specs.Bytes.{AreBytes}
-use Rattle.yr_values.specs.Values.{Value}
 use Rattle.yr_answer.specs.MatchList.{Match}
 use Rattle.yr_answer.specs.Listing.{ListedRule}
 use Rattle.yr_answer.specs.Report.{report_of}

@@ -1,10 +1,9 @@
 -- The truths of a built image's rules are those of the rules.
-use Rattle.std.proofs.Common.{◌≡◌, ℕ, zero, suc, ◌+◌, ◌<◌, ◌≤◌, ⊎_elim, Bool, List, [], ◌∷◌, ◌++◌, length, map, take, drop, All, Option, Some, slice_get, refl, sym, ap, ap₂, ◌∙◌, subst, arith, inl, inr}
+use Rattle.std.proofs.Common.{◌≡◌, ℕ, zero, suc, ◌+◌, ◌<◌, ◌≤◌, ⊎_elim, Bool, List, [], ◌∷◌, ◌++◌, length, map, take, Some, slice_get, refl, sym, ap, ap₂, ◌∙◌, subst, arith, inl, inr}
 use Rattle.std.proofs.lemmas.Bool.{cases_order}
 use Rattle.std.proofs.lemmas.List.{length-append, length-map, append_assoc, append-nil, length-take-le}
 use Rattle.std.proofs.Math.Seq.{take-length}
 use Rattle.std.proofs.lemmas.Option.{none-some, same_Some, slice_get_within, slice_get_cases}
-use Rattle.yr_base.specs.declared.value.Kind.{Kind}
 use Rattle.yr_values.specs.Values.{holds}
 use Rattle.yr_rules.specs.NodeTree.{NodeTree}
 use Rattle.yr_rules.specs.Rules.{PlainRule, PlainRules}
@@ -14,10 +13,10 @@ use Rattle.yr_rules.specs.Ids.{HasIds}
 use Rattle.yr_rules.specs.Wellformed.{IsWellformed, IsGoodRule}
 use Rattle.yr_meaning.specs.Conditions.{Environment, value_of}
 use Rattle.yr_meaning.specs.Fitting.{ids_of, FitsKinds}
-use Rattle.yr_meaning.specs.Truths.{with_truths, truth_after, truths_after, truths_of}
+use Rattle.yr_meaning.specs.Truths.{truth_after, truths_after, truths_of}
 use Rattle.yr_image.specs.declared.rows.CodeRow.{CodeRow}
 use Rattle.yr_image.specs.declared.rows.RuleRow.{RuleRow}
-use Rattle.yr_image.specs.Image.{Image, code_of}
+use Rattle.yr_image.specs.Image.{code_of}
 use Rattle.yr_image.specs.ModuleTable.{field_row_of, call_row_of}
 use Rattle.yr_machine.specs.Operations.{Context}
 use Rattle.yr_machine.specs.Machine.{Machine, Outcome, going, done, run, start, EndsAfter, Ends}

@@ -1,12 +1,12 @@
 -- What reports take of an image whose rows say rules: the same as of the rules.
-use Rattle.std.proofs.Common.{◌≡◌, ℕ, zero, suc, ◌+◌, ◌*◌, ◌/◌, ◌%◌, ◌==◌, ◌<◌, ◌≤◌, ⊎_elim, not, codes, Bool, true, false, if◌then◌else◌, List, [], ◌∷◌, ◌++◌, length, map, filter, take, drop, Some, slice_get, refl, sym, ap, ap₂, ◌∙◌, subst, arith}
+use Rattle.std.proofs.Common.{◌≡◌, ℕ, zero, suc, ◌+◌, ◌*◌, ◌==◌, ◌<◌, ⊎_elim, not, codes, Bool, true, false, if◌then◌else◌, List, [], ◌∷◌, ◌++◌, length, map, filter, take, drop, Some, slice_get, refl, sym, ap, ap₂, ◌∙◌, arith}
 use Rattle.std.specs.Int.{w64, cast_signed}
 use Rattle.std.proofs.lemmas.List.{length-take, length-drop}
 use Rattle.std.proofs.lemmas.Option.{none-some, slice_get_within, slice_get_cases}
 use Rattle.yr_syntax.specs.Declaration.{MetaTree, ValueTree, TextValue, NumberValue, FlagValue}
 use Rattle.yr_values.specs.Values.{Value, Undefined, Number, Flag, Text}
-use Rattle.yr_answer.specs.Listing.{MetaValue, MetaText, MetaNumber, MetaFlag, ListedMeta, ListedString, ListedRule}
-use Rattle.yr_rules.specs.Rules.{PlainExternal, PlainString, PlainRule, PlainRules}
+use Rattle.yr_answer.specs.Listing.{MetaText, MetaNumber, MetaFlag, ListedMeta, ListedString}
+use Rattle.yr_rules.specs.Rules.{PlainExternal, PlainString, PlainRule}
 use Rattle.yr_meaning.specs.Listing as plain
 use Rattle.yr_image.specs.declared.rows.NoteRow.{NoteRow}
 use Rattle.yr_image.specs.declared.rows.RuleRow.{RuleRow}

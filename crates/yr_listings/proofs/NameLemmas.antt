@@ -1,27 +1,24 @@
 -- The names of rules, notes and externals pass the check of names.
-use Rattle.std.proofs.Common.{◌≡◌, ◌≢◌, ℕ, zero, suc, ◌+◌, ◌<◌, ◌≤◌, ◌==◌, nat_le, ◌&&◌, ◌||◌, Bool, true, false, if◌then◌else◌, List, [], ◌∷◌, ◌++◌, length, map, All, Some, slice_get, refl, sym, ap, ap₂, ◌∙◌, subst, true≢false, arith}
+use Rattle.std.proofs.Common.{◌≡◌, ◌≢◌, ℕ, zero, suc, ◌+◌, ◌<◌, ◌≤◌, ◌==◌, nat_le, ◌&&◌, ◌||◌, Bool, true, false, if◌then◌else◌, List, [], ◌∷◌, ◌++◌, length, map, All, Some, slice_get, refl, sym, ap, ◌∙◌, subst, true≢false, arith}
 use Rattle.std.specs.Prelude.{codes}
 use Rattle.std.specs.List.{list_any}
 use Rattle.std.specs.Str.{bytes_eq}
 use Rattle.std.proofs.lemmas.Bool.{le-leb}
 use Rattle.std.proofs.lemmas.Slice.Eq.{bytes_eq-Decides}
-use Rattle.std.proofs.lemmas.List.{length-map}
 use Rattle.std.proofs.lemmas.List.Elements.{All-head, All-tail}
-use Rattle.std.proofs.lemmas.Option.{none-some, same_Some, slice_get_within}
+use Rattle.std.proofs.lemmas.Option.{none-some, same_Some}
 use Rattle.yr_base.specs.Words.{IsWord, is_word, name_limit}
 use Rattle.yr_base.proofs.WordLemmas.{word_test}
 use Rattle.yr_syntax.specs.Declaration.{MetaTree}
 use Rattle.yr_syntax.specs.Forms.{IsWordName}
-use Rattle.yr_values.specs.Values.{Value}
-use Rattle.yr_rules.specs.Rules.{PlainExternal, PlainRule, PlainRules}
+use Rattle.yr_rules.specs.Rules.{PlainExternal, PlainRules}
 use Rattle.yr_rules.specs.Wellformed.{IsWellformed, IsGoodRule, IsShortWord, count_different, AreDifferent}
 use Rattle.yr_image.specs.declared.rows.NoteRow.{NoteRow}
-use Rattle.yr_image.specs.declared.rows.RuleRow.{RuleRow}
 use Rattle.yr_image.specs.Image.{Image, pool_text, namespace_of}
 use Rattle.yr_machine.specs.Names.{At, is_name, rule_name, note_name, IsNewName}
 use Rattle.yr_listings.specs.declared.code_range.CodeRange.{CodeRange}
-use Rattle.yr_listings.specs.Notes.{Note, Tag, Entry, IsText, SaysNote, SayNotes, entry_of, external_note, notes_of}
-use Rattle.yr_listings.specs.Rules.{SaysRule, SayRules}
+use Rattle.yr_listings.specs.Notes.{Note, Tag, Entry, SaysNote, SayNotes, entry_of, external_note}
+use Rattle.yr_listings.specs.Rules.{SayRules}
 use Rattle.yr_listings.proofs.PassLemmas.{both, there_too, note_at, note_says}
 
 word_passes : (name : List ℕ) → IsWord name → length name ≤ name_limit → is_name name ≡ true

@@ -1,18 +1,16 @@
 -- Rows of notes that are put.
-use Rattle.std.proofs.Common.{◌≡◌, ℕ, ◌+◌, ◌*◌, ◌<◌, ◌≤◌, ℤ, Bool, List, [], ◌∷◌, ◌++◌, length, map, refl, sym, ap, ap₂, ◌∙◌, subst, arith}
+use Rattle.std.proofs.Common.{◌≡◌, ℕ, ◌+◌, ◌≤◌, ℤ, Bool, List, [], ◌∷◌, ◌++◌, length, map, refl, sym, ap, ◌∙◌, subst, arith}
 use Rattle.std.specs.Int.{w64, cast_signed}
 use Rattle.std.proofs.lemmas.List.{length-append, append_assoc, append-nil, map-append}
-use Rattle.yr_syntax.specs.Declaration.{MetaTree, ValueTree, TextValue, NumberValue, FlagValue}
 use Rattle.yr_values.specs.Values.{Value, Undefined, Number, Flag, Text}
 use Rattle.yr_rules.specs.Rules.{PlainExternal}
-use Rattle.yr_rules.specs.Weight.{total, external_weight, text_bytes, tag_weight, meta_weight, meta_bytes}
+use Rattle.yr_rules.specs.Weight.{total, external_weight}
 use Rattle.yr_image.specs.declared.rows.NoteRow.{NoteRow}
-use Rattle.yr_image.specs.Sections.{rule_width}
 use Rattle.yr_image.specs.Image.{Image}
 use Rattle.yr_image.specs.Encoding.{encoded_length}
 use Rattle.yr_tables.specs.Growing.{Grows}
 use Rattle.yr_tables.specs.Added.{HasText}
-use Rattle.yr_listings.specs.Notes.{Note, Tag, Entry, note_bytes, IsText, flag_of, SaysValue, SaysNote, SayNotes, entry_of, meta_value, external_note}
+use Rattle.yr_listings.specs.Notes.{Note, Tag, Entry, IsText, flag_of, SaysValue, SaysNote, SayNotes, external_note}
 use Rattle.yr_listings.specs.Putting.{HasName, PutsNote, PutsNotes, PutsExternals, notes_bytes}
 use Rattle.yr_listings.proofs.TextLemmas.{grows_after, grows_same, text_grows, text_cost, text_is, text_stays, in_parts, own_bytes, other_bytes}
 

@@ -1,21 +1,20 @@
 -- Rows that say rules, notes and externals pass the checks of an image.
-use Rattle.std.proofs.Common.{◌≡◌, ◌≢◌, ℕ, zero, suc, ◌+◌, ◌-◌, ◌*◌, ◌<◌, ◌≤◌, ◌==◌, nat_le, nat_lt, ◌&&◌, ◌||◌, ◌⊎◌, inl, inr, ⊎_elim, Bool, true, false, if◌then◌else◌, List, [], ◌∷◌, ◌++◌, length, map, take, drop, All, Option, Some, None, slice_get, refl, sym, ap, ap₂, ◌∙◌, subst, true≢false, arith}
+use Rattle.std.proofs.Common.{◌≡◌, ℕ, zero, suc, ◌+◌, ◌-◌, ◌*◌, ◌<◌, ◌≤◌, ◌==◌, nat_le, nat_lt, ◌&&◌, ◌||◌, ⊎_elim, Bool, true, false, if◌then◌else◌, List, [], ◌∷◌, length, map, take, drop, Option, Some, None, slice_get, refl, sym, ap, ap₂, ◌∙◌, subst, true≢false, arith}
 use Rattle.std.specs.Option.{option_map_or}
 use Rattle.std.proofs.lemmas.Bool.{le-leb, cases_lt}
 use Rattle.std.proofs.lemmas.Bool.Decides.{Decides-eqb, Decides-ltb}
 use Rattle.std.proofs.Math.Seq.{take-length}
 use Rattle.std.proofs.lemmas.Option.{none-some, same_Some, slice_get_within, slice_get_cases}
-use Rattle.yr_syntax.specs.Declaration.{MetaTree}
 use Rattle.yr_values.specs.Values.{Value, Undefined, Number, Flag, Text}
 use Rattle.yr_rules.specs.Rules.{PlainExternal, PlainRule, PlainRules}
 use Rattle.yr_rules.specs.Weight.{total}
 use Rattle.yr_rules.specs.Wellformed.{IsWellformed}
 use Rattle.yr_image.specs.declared.rows.NoteRow.{NoteRow}
 use Rattle.yr_image.specs.declared.rows.RuleRow.{RuleRow}
-use Rattle.yr_image.specs.Image.{Image, in_pool, pool_text, namespace_of}
+use Rattle.yr_image.specs.Image.{Image, in_pool}
 use Rattle.yr_machine.specs.Rows.{end_before, notes_end, strings_end, code_end, ends_sections, is_good_rule, is_good_without_rules, is_good_note, is_good_value, is_good_external, row_passes}
 use Rattle.yr_listings.specs.declared.code_range.CodeRange.{CodeRange}
-use Rattle.yr_listings.specs.Notes.{Note, Tag, Entry, IsText, SaysValue, SaysNote, SayNotes, entry_of, external_note, notes_of, flag_of}
+use Rattle.yr_listings.specs.Notes.{Note, Tag, Entry, IsText, SaysValue, SaysNote, SayNotes, external_note, notes_of, flag_of}
 use Rattle.yr_listings.specs.Rules.{notes_in, SaysRule, SayRules}
 use Rattle.yr_listings.specs.Codes.{range_end, FollowCodes}
 

@@ -1,7 +1,7 @@
 -- Rows of rules that are put.
-use Rattle.std.proofs.Common.{◌≡◌, ℕ, zero, suc, ◌+◌, ◌*◌, ◌<◌, ◌≤◌, ◌==◌, Bool, true, false, if◌then◌else◌, ◌⊎◌, inl, inr, List, [], ◌∷◌, ◌++◌, length, map, take, drop, Option, Some, slice_get, refl, sym, ap, ap₂, ◌∙◌, subst, arith}
+use Rattle.std.proofs.Common.{◌≡◌, ℕ, zero, suc, ◌+◌, ◌*◌, ◌≤◌, ◌==◌, Bool, true, false, if◌then◌else◌, ◌⊎◌, inl, inr, List, [], ◌∷◌, ◌++◌, length, map, take, drop, Option, Some, slice_get, refl, sym, ap, ap₂, ◌∙◌, subst, arith}
 use Rattle.std.specs.Option.{option_map_or}
-use Rattle.std.proofs.lemmas.List.{length-append, length-map, append-nil}
+use Rattle.std.proofs.lemmas.List.{length-append}
 use Rattle.std.proofs.Math.Seq.{drop-append_seam, take-length}
 use Rattle.std.proofs.lemmas.Option.{none-some, same_Some, slice_get_within}
 use Rattle.yr_syntax.specs.Declaration.{MetaTree, ValueTree, TextValue, NumberValue, FlagValue}
@@ -18,10 +18,10 @@ use Rattle.yr_tables.specs.Added.{HasText}
 use Rattle.yr_tables.proofs.RunLemmas.{get_left}
 use Rattle.yr_tables.proofs.GrowLemmas.{pushed_at}
 use Rattle.yr_listings.specs.declared.code_range.CodeRange.{CodeRange}
-use Rattle.yr_listings.specs.Notes.{Note, Tag, Entry, IsText, SayNotes, notes_of, entry_of, meta_value, flag_of}
-use Rattle.yr_listings.specs.Rules.{notes_in, SaysRule, SayRules, HasShortTexts}
+use Rattle.yr_listings.specs.Notes.{Note, Tag, IsText, SayNotes, notes_of, entry_of, meta_value, flag_of}
+use Rattle.yr_listings.specs.Rules.{notes_in, SaysRule, HasShortTexts}
 use Rattle.yr_listings.specs.Putting.{PutsNotes, PutsRules, notes_bytes, listing_weight}
-use Rattle.yr_listings.proofs.TextLemmas.{begins_same, kept_range, longer, push_place, grows_after, grows_same, own_bytes, other_bytes, in_parts, text_grows, text_cost, text_is, text_stays}
+use Rattle.yr_listings.proofs.TextLemmas.{kept_range, longer, push_place, grows_after, grows_same, other_bytes, in_parts, text_grows, text_cost, text_is, text_stays}
 use Rattle.yr_listings.proofs.NoteLemmas.{notes_stay, say_count, total-push, bytes-append}
 
 -- ---- costs

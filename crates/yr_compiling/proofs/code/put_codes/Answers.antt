@@ -1,4 +1,4 @@
-use Rattle.std.proofs.Common.{◌≡◌, List, [], ◌∷◌, ◌++◌, map, take, sym, subst}
+use Rattle.std.proofs.Common.{List, [], ◌∷◌, ◌++◌, map, take, sym, subst}
 use Rattle.yr_rules.specs.Rules.{PlainRule, rule_of, external_of}
 use Rattle.yr_listings.specs.declared.code_range.CodeRange.{CodeRange}
 use Rattle.yr_listings.proofs.LoopLemmas.{at_item, one_more}

@@ -1,4 +1,4 @@
-use Rattle.std.proofs.Common.{◌≡◌, ◌<◌, sym, subst}
+use Rattle.std.proofs.Common.{sym, subst}
 use Rattle.yr_rules.specs.Rules.{rules_of}
 use Rattle.yr_image.specs.Image.{Image, shown}
 use Rattle.yr_compiling.specs.Built.{IsBuilt}

@@ -1,4 +1,4 @@
-use Rattle.std.proofs.Common.{◌≡◌, List, map, All, sym, subst, ap, ◌∙◌}
+use Rattle.std.proofs.Common.{List, map, All, sym, subst, ap}
 use Rattle.yr_rules.specs.Rules.{PlainExternal, PlainRule, rule_of, external_of, rules_of}
 use Rattle.yr_image.specs.Image.{Image}
 use Rattle.yr_listings.specs.declared.code_range.CodeRange.{CodeRange}

@@ -1,4 +1,4 @@
-use Rattle.std.proofs.Common.{ℕ, List, map, take, sym, subst, ap}
+use Rattle.std.proofs.Common.{ℕ, List, map, take, sym, subst}
 use Rattle.yr_syntax.specs.Declaration.{bytes_of}
 use Rattle.yr_listings.specs.Notes.{Note, Tag}
 use Rattle.yr_listings.specs.Putting.{PutsNote, PutsNotes}

@@ -1,4 +1,4 @@
-use Rattle.std.proofs.Common.{◌≡◌, ℕ, ◌+◌, ◌*◌, List, length, refl, sym, subst, ap, ap₂, ◌∙◌}
+use Rattle.std.proofs.Common.{ℕ, ◌+◌, ◌*◌, List, length, refl, subst, ap, ap₂, ◌∙◌}
 use Rattle.yr_rules.specs.Rules.{rule_of}
 use Rattle.yr_image.specs.declared.rows.RuleRow.{RuleRow}
 use Rattle.yr_tables.specs.Added.{HasText}

@@ -1,4 +1,4 @@
-use Rattle.std.proofs.Common.{◌≡◌, ℕ, ◌+◌, List, [], ◌∷◌, ◌++◌, length, map, take, Some, slice_get, sym, subst, ap, ◌∙◌, arith}
+use Rattle.std.proofs.Common.{◌≡◌, List, length, map, take, Some, slice_get, sym, subst, ap, ◌∙◌, arith}
 use Rattle.std.proofs.lemmas.List.{length-map, length-take-le}
 use Rattle.yr_rules.specs.Rules.{PlainRule, rule_of}
 use Rattle.yr_listings.specs.Rules.{HasShortTexts}
