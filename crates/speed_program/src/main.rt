@@ -8,8 +8,7 @@ use anyhow::bail;
 use std::env;
 use std::time::CpuClock;
 use texts::{empty_groups, long_option, long_part, long_parts, nested};
-use yr_hex::read_hex;
-use yr_pattern::{fold, size, widen};
+use yr_pattern::size;
 use yr_program::assemble;
 use yr_regex::{Regex, read_regex};
 
@@ -48,28 +47,6 @@ fn main(rt: HostRuntime) -> anyhow::Result<()> {
             &nested(rt.alloc(), begins, "a", ends, after)?,
         )?;
     }
-    show_forms(rt)
-}
-
-// The sizes of the deepest expression in its other forms, and of the deepest hex string.
-fn show_forms(rt: HostRuntime) -> anyhow::Result<()> {
-    let regex = read(rt, &nested(rt.alloc(), "(a", "a", ")", "")?)?;
-    let Ok(wide) = widen(rt.alloc(), &regex.pattern) else {
-        bail!("no memory");
-    };
-    let Ok(folded) = fold(rt.alloc(), &wide) else {
-        bail!("no memory");
-    };
-    let text = nested(rt.alloc(), "( 61 | 62 ", "63", ")", "")?;
-    if text.len() > 1_000 {
-        bail!("too long");
-    }
-    let hex = match read_hex(rt.alloc(), &text) {
-        Ok(pattern) => size(&pattern),
-        Err(_) => 0,
-    };
-    let (sizes, hex_bytes) = (size(&folded), text.len());
-    println!(rt; "wide in either case: {sizes}; hex string of {hex_bytes} bytes: {hex}")?;
     Ok(())
 }
 
