@@ -310,6 +310,8 @@ within_budget image n before now le =
 pub apart : (bytes : List ℕ) (wellformed : IsWellformed bytes) (file : List ℕ) (fronts : List (List ℕ)) → AreFronts (image_in bytes) file (length file) fronts
     → (hits : List (List ℕ)) × AreHits (image_in bytes) file hits × (hit_count hits ≡ (length file + 1) * length (own (image_in bytes) 0) + total fronts)
 apart bytes wellformed file fronts are =
-    let root = own (image_in bytes) 0 in
-    (all_hits root fronts, hits_are bytes wellformed file fronts are,
-     count_hits root fronts ∙ ap (λ n. n * length root + total fronts) are.count)
+    let root = own (image_in bytes) 0 in (
+      all_hits root fronts,
+      hits_are bytes wellformed file fronts are,
+      count_hits root fronts ∙ ap (λ n. n * length root + total fronts) are.count,
+    )

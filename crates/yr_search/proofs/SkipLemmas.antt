@@ -76,6 +76,7 @@ module _ (bytes : List ℕ) (wellformed : IsWellformed bytes) (file : List ℕ) 
     where
       some : 0 < length (image_in bytes).nodes
       some = some_nodes bytes wellformed
+
       go : (o : Option ℕ) → edge_of (image_in bytes).nodes (image_in bytes).edges 0 b ≡ o
           → Stands (image_in bytes) file (p + 1) 0 × ((x : ℕ) × LeadsFrom0 (image_in bytes) (take (p + 1) file) x × (x < length (image_in bytes).nodes) × (upper (image_in bytes) x ≡ []))
       go None e =
@@ -89,18 +90,25 @@ module _ (bytes : List ℕ) (wellformed : IsWellformed bytes) (file : List ℕ) 
           let other : x ≢ 0 = λ z. let flat : depth_of (image_in bytes) x ≡ 0 = ap (depth_of (image_in bytes)) z ∙ root_depth bytes wellformed some in omega (arith, deep, flat) in
           let falls = link_falls bytes wellformed x row.0 row.1 other in
           let root : row.0.failure ≡ 0 = is_root row.0.failure falls.1 (omega (arith, falls.2, deep)) in
-          let none : upper (image_in bytes) x ≡ [] = no_upper bytes wellformed x row.0 row.1 other is.1 (ap (upper (image_in bytes)) root) in
-          (record {
-            real = x;
-            leads = leads;
-            inside = is.0;
-            like = inr (refl, other, link_is bytes wellformed x row.0 row.1 ∙ root,
+          let none : upper (image_in bytes) x ≡ [] = no_upper bytes wellformed x row.0 row.1 other is.1 (ap (upper (image_in bytes)) root) in (
+            record {
+              real = x;
+              leads = leads;
+              inside = is.0;
+              like = inr (
+                refl,
+                other,
+                link_is bytes wellformed x row.0 row.1 ∙ root,
                 λ d there. let same : d ≡ c = same_byte (slice_get file (p + 1)) d c there next in
-                subst (λ y. edge_of (image_in bytes).nodes (image_in bytes).edges x y ≡ None) (sym same) is.2);
-          }, (x, leads, is.0, none))
+                    subst (λ y. edge_of (image_in bytes).nodes (image_in bytes).edges x y ≡ None) (sym same) is.2,
+              );
+            },
+            (x, leads, is.0, none),
+          )
         where
           same_byte : (o : Option ℕ) (d c : ℕ) → o ≡ Some d → o ≡ Some c → d ≡ c
           same_byte o d c p q = cc
+
           is_root : (n : ℕ) → n < length (image_in bytes).nodes → depth_of (image_in bytes) n < 1 → n ≡ 0
           is_root zero lt flat = refl
           is_root (suc n) lt flat =
@@ -123,7 +131,7 @@ module _ (bytes : List ℕ) (wellformed : IsWellformed bytes) (file : List ℕ) 
       let none : upper (image_in bytes) x ≡ [] = done.1.3 in
       let long = ap length none in
       let walked = walked_next (image_in bytes) file p x old new new count w done.1.1 done.1.2
-          (subst (λ o. TakesAll (image_in bytes) file (p + 1) o new new) (sym none) refl) in
+      (subst (λ o. TakesAll (image_in bytes) file (p + 1) o new new) (sym none) refl) in
       (done.0, subst (λ n. Walked (image_in bytes) file (p + 1) old new n) (omega (arith, long)) walked)
 
   pass_some : (table : List Bool) → IsPairTable (image_in bytes) table → ((i : ℕ) → slice_index file i < 256) → (d p q : ℕ) (old new : List (List Match)) (count : ℕ) → q ≡ p + d → q < length file

@@ -23,7 +23,7 @@ pub fn hits_of_node_0_are_apart()
     ensures outputs { (bytes text : List ℕ) (n : ℕ) → IsWellformed bytes → LeadsFrom0 (image_in bytes) text n
         → n < length (image_in bytes).nodes
         → AreOutputs (link_of (image_in bytes).nodes) (own_of (image_in bytes).nodes (image_in bytes).outputs) n
-            (upper (image_in bytes) n ++ own (image_in bytes) 0) }
+        (upper (image_in bytes) n ++ own (image_in bytes) 0) }
     ensures count { (bytes file : List ℕ) (fronts : List (List ℕ)) → IsWellformed bytes
         → AreFronts (image_in bytes) file (length file) fronts
         → (hits : List (List ℕ)) × AreHits (image_in bytes) file hits

@@ -16,8 +16,6 @@ mod skipping;
 mod skips;
 mod starting;
 mod taking;
-#[cfg(test)]
-mod tests;
 mod walking;
 
 pub use lending::program;
