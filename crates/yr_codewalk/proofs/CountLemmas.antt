@@ -1,14 +1,13 @@
 -- How many rows the sections of an image have: as many as its header says.
-use Rattle.std.proofs.Common.{◌≡◌, ℕ, ◌+◌, ◌*◌, ◌/◌, ◌<◌, ◌≤◌, List, length, drop, refl, sym, ap, ◌∙◌, arith, Bool, true, false, cond, lit<}
-use Rattle.std.specs.Prelude.{slice_index, ◌==◌}
+use Rattle.std.proofs.Common.{◌≡◌, ℕ, ◌*◌, ◌/◌, ◌<◌, List, length, drop, refl, ap, ◌∙◌, arith, Bool, true, false, cond, lit<}
+use Rattle.std.specs.Prelude.{◌==◌}
 use Rattle.std.proofs.lemmas.List.{length-drop, length-take-le}
 use Rattle.std.proofs.lemmas.List.FromFn.{length-map-range_with_len}
 use Rattle.std.proofs.Math.Nat.{mul-div_cancel}
 use Rattle.yr_rows.specs.Moves.{move_row}
 use Rattle.yr_rows.specs.Nodes.{node_in, edge_in, number_in}
-use Rattle.yr_rows.specs.Rows.{rows_in}
 use Rattle.yr_rows.proofs.RowLemmas.{length-rows_in}
-use Rattle.yr_image.specs.Sections.{HasSections, rows_of, size_of, place_of, end_of, bytes_of, rule_width, version_in}
+use Rattle.yr_image.specs.Sections.{HasSections, rows_of, size_of, place_of, bytes_of, rule_width, version_in}
 use Rattle.yr_image.specs.Reading.{image_in, rule_row, note_row, string_row, split_row, split_zeros, program_row, code_row, zeros_in}
 
 rule_width_positive : (b : Bool) → 0 < cond b 32 40

@@ -1,5 +1,5 @@
 -- Numbers among the wants.
-use Rattle.std.proofs.Common.{◌≡◌, ℕ, zero, suc, List, [], ◌∷◌, refl, sym, ap, ◌∙◌}
+use Rattle.std.proofs.Common.{◌≡◌, ℕ, zero, suc, List, ◌∷◌, refl, ap}
 use Rattle.yr_base.specs.declared.value.Kind.TheVariants as kind
 use Rattle.yr_machine.specs.declared.block.Want.{Want}
 use Rattle.yr_machine.specs.declared.block.Want.TheVariants as want

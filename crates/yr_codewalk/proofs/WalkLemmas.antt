@@ -1,9 +1,9 @@
 -- Steps of the walk.
-use Rattle.std.proofs.Common.{◌≡◌, ℕ, zero, suc, ◌+◌, ◌-◌, ◌<◌, ◌≤◌, List, [], ◌∷◌, length, take, drop, Option, Some, None, refl, sym, ap, ◌∙◌, arith, Bool, true, false, not, ◌&&◌, cond, inl, inr, length-drop, get_or}
+use Rattle.std.proofs.Common.{◌≡◌, ℕ, suc, ◌+◌, ◌-◌, ◌≤◌, List, [], ◌∷◌, length, drop, Option, Some, None, refl, sym, ap, ◌∙◌, arith, Bool, true, false, not, ◌&&◌, cond, inl, inr, length-drop, get_or}
 use Rattle.std.specs.Prelude.{slice_get, ◌==◌, nat_le}
 use Rattle.yr_values.specs.Comparisons.{flag_eq}
 use Rattle.yr_image.specs.declared.instruction.Instruction.{Instruction}
-use Rattle.yr_machine.specs.declared.block.Opener.TheVariants.{Skip, Loop}
+use Rattle.yr_machine.specs.declared.block.Opener.TheVariants.{Loop}
 use Rattle.yr_machine.specs.Roles.{Role, role}
 use Rattle.yr_machine.specs.Named.{names_there}
 use Rattle.std.proofs.Math.Bool.{beq}

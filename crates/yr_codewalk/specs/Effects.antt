@@ -1,5 +1,5 @@
 -- What the code of the walk says of an instruction's role.
-use Rattle.std.specs.Prelude.{ℕ, zero, suc, Bool, true, false, if◌then◌else◌, List, [], ◌∷◌}
+use Rattle.std.specs.Prelude.{ℕ, zero, suc, if◌then◌else◌, List, [], ◌∷◌}
 use Rattle.yr_base.specs.declared.value.Kind.TheVariants as kind
 use Rattle.yr_machine.specs.declared.block.Want.{Want}
 use Rattle.yr_machine.specs.declared.block.Want.TheVariants as want

@@ -1,5 +1,5 @@
 -- The rows of a rule's code, read in place.
-use Rattle.std.specs.Prelude.{ℕ, List, take, drop}
+use Rattle.std.specs.Prelude.{List, take, drop}
 use Rattle.yr_image.specs.declared.rows.CodeRow.{CodeRow}
 use Rattle.yr_image.specs.Image.{Image}
 use Rattle.yr_image.specs.Views.{image_of}

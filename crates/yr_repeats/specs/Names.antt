@@ -1,5 +1,5 @@
 -- The names of external variables, and which of them are new.
-use Rattle.std.specs.Prelude.{◌≡◌, ℕ, ◌<◌, ◌≤◌, List, [], Option, Some, None, slice_get}
+use Rattle.std.specs.Prelude.{ℕ, ◌<◌, List, [], Option, Some, None, slice_get}
 use Rattle.std.specs.Option.{option_map_or}
 use Rattle.yr_image.specs.Image.{Image}
 use Rattle.yr_machine.specs.Names.{At, note_name, IsNewName}

@@ -1,14 +1,14 @@
 -- Nodes of the automaton, one after another.
-use Rattle.std.proofs.Common.{◌≡◌, ◌≢◌, ℕ, zero, suc, ◌+◌, ◌-◌, ◌<◌, ◌≤◌, ◌⊎◌, inl, inr, ⊎_elim, List, length, take, drop, get_or, Some, None, sym, ap, ◌∙◌, subst, arith}
+use Rattle.std.proofs.Common.{◌≡◌, ℕ, ◌+◌, ◌-◌, ◌<◌, ◌≤◌, ◌⊎◌, inl, inr, ⊎_elim, List, length, take, drop, Some, sym, ap, ◌∙◌, subst, arith}
 use Rattle.std.specs.Prelude.{slice_get}
-use Rattle.std.proofs.lemmas.Option.{slice_get_past, slice_get_within, slice_get-get_or}
+use Rattle.std.proofs.lemmas.Option.{slice_get_past, slice_get_within}
 use Rattle.yr_rows.specs.declared.nodes.NodeRow.{NodeRow}
 use Rattle.yr_rows.specs.declared.nodes.EdgeRow.{EdgeRow}
 use Rattle.yr_rows.specs.Nodes.{BytesRise, edges_at}
 use Rattle.yr_image.specs.Image.{Image}
-use Rattle.yr_machine.specs.Automaton.{HasAtomOf, IsNode, NodePasses}
+use Rattle.yr_machine.specs.Automaton.{IsNode, NodePasses}
 use Rattle.yr_codewalk.proofs.RangeLemmas.{range_place, range_length}
-use Rattle.yr_verifier.specs.Nodes.{HasRanges, HasDepth, LeadsDeeper, AllLeadDeeper, HaveAtoms}
+use Rattle.yr_verifier.specs.Nodes.{HasRanges, HasDepth, AllLeadDeeper, HaveAtoms}
 
 module _ (image : Image) where
   pub node_here : (n : ℕ) (row : NodeRow) → slice_get image.nodes n ≡ Some row → IsNode image n row → NodePasses image n

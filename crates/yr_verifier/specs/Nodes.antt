@@ -1,8 +1,8 @@
 -- What a node of the automaton must have, in the parts that are tested one after another.
-use Rattle.std.specs.Prelude.{◌≡◌, ◌≢◌, ℕ, ◌+◌, ◌<◌, ◌≤◌, List, length, take, drop, Some, slice_get, All}
+use Rattle.std.specs.Prelude.{◌≡◌, ◌≢◌, ℕ, ◌+◌, ◌<◌, ◌≤◌, List, length, Some, slice_get, All}
 use Rattle.yr_rows.specs.declared.nodes.NodeRow.{NodeRow}
 use Rattle.yr_rows.specs.declared.nodes.EdgeRow.{EdgeRow}
-use Rattle.yr_rows.specs.Nodes.{end_before, edges_end, outputs_end, edges_at, BytesRise, Each}
+use Rattle.yr_rows.specs.Nodes.{end_before, edges_end, outputs_end, Each}
 use Rattle.yr_image.specs.Image.{Image}
 use Rattle.yr_machine.specs.Automaton.{HasAtomOf}
 

@@ -80,7 +80,7 @@ fn number(word: &str) -> u64 {
 /// The place before a colon, and the rows behind it.
 pub fn place_and_rows(line: &str) -> (u32, &str) {
     match line.split_once(':') {
-        Some((place, rows)) => (number(place.trim()) as u32 % 0x1_0000, rows),
+        Some((place, rows)) => ((number(place.trim()) % 0x1_0000) as u32, rows),
         None => (0, line),
     }
 }

@@ -1,6 +1,6 @@
 use Rattle.std.proofs.Common.{◌≡◌, ◌+◌, ap, ◌∙◌, arith}
 use Rattle.std.specs.Prelude.{◌==◌, Some}
-use Rattle.yr_machine.specs.CodeWalk.{by_row, close, fails, finished, goes_on, code_fault}
+use Rattle.yr_machine.specs.CodeWalk.{by_row, close, fails, finished, goes_on}
 use Rattle.yr_codewalk.specs.Rows.{rows_shown, image_shown}
 use Rattle.yr_codewalk.proofs.WalkLemmas.{fault_by, fault_end}
 use Rattle.yr_codewalk.proofs.checking.code_fault.Goals as goal

@@ -1,4 +1,3 @@
-use Rattle.std.proofs.Common.{◌≤◌}
 use Rattle.yr_image.specs.Views.{image_of}
 use Rattle.yr_codewalk.specs.Blocks.{AreAtMost}
 use Rattle.yr_codewalk.proofs.members.greatest.Given as goal

@@ -1,4 +1,4 @@
-use Rattle.std.proofs.Common.{sym, ap, ◌∙◌, ◌≡◌, [], ◌∷◌, reverse, take, arith, cond}
+use Rattle.std.proofs.Common.{sym, ap, ◌∙◌, [], ◌∷◌, reverse, arith, cond}
 use Rattle.yr_base.specs.declared.value.Kind.TheVariants as kind
 use Rattle.yr_machine.specs.declared.block.Want.TheVariants as want
 use Rattle.yr_machine.specs.CodeWalk.{take_kinds}

@@ -1,6 +1,6 @@
 use Rattle.std.proofs.Common.{arith}
 use Rattle.yr_image.specs.Views.{image_of}
-use Rattle.yr_repeats.proofs.WindowLemmas.{done_first, done_more, repeat_in, repeats_old, all_new}
+use Rattle.yr_repeats.proofs.WindowLemmas.{done_more, repeat_in, repeats_old, all_new}
 use Rattle.yr_repeats.proofs.repeating.repeated_of_many.Goals as goal
 
 pub returns-in-Repeat : goal.returns-in-Repeat

@@ -1,4 +1,4 @@
-use Rattle.std.proofs.Common.{◌≡◌, ◌≤◌, ◌-◌, length}
+use Rattle.std.proofs.Common.{◌≡◌, ◌-◌, length}
 use Rattle.yr_image.specs.Views.{image_of}
 use Rattle.yr_repeats.specs.Windows.{AreDone}
 use Rattle.yr_repeats.proofs.repeating.repeated_of_many.Given as goal

@@ -1,4 +1,4 @@
-use Rattle.std.proofs.Common.{◌≡◌, ◌≤◌, length}
+use Rattle.std.proofs.Common.{◌≡◌, ◌≤◌}
 use Rattle.yr_image.specs.Views.{image_of}
 use Rattle.yr_repeats.specs.Tables.{AreFree, Keeps}
 use Rattle.yr_repeats.specs.Windows.{AreDistinct}

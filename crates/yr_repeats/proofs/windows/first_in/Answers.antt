@@ -1,4 +1,4 @@
-use Rattle.std.proofs.Common.{◌≡◌, ◌<◌, ◌⊎◌, inl, inr, ℕ, ◌+◌, ⊎_elim, subst, sym, arith}
+use Rattle.std.proofs.Common.{⊎_elim, subst, sym, arith}
 use Rattle.std.proofs.lemmas.Bool.{cases_order}
 use Rattle.yr_image.specs.Views.{image_of}
 use Rattle.yr_repeats.specs.Windows.{IsOther}

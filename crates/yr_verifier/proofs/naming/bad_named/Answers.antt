@@ -1,8 +1,7 @@
-use Rattle.std.proofs.Common.{sym, subst, arith}
+use Rattle.std.proofs.Common.{sym, subst}
 use Rattle.yr_machine.specs.Names.{NamePasses}
 use Rattle.yr_image.specs.Views.{image_of}
 use Rattle.yr_verifier.specs.Firsts.{Finds}
-use Rattle.yr_verifier.specs.Named.{is_named}
 use Rattle.yr_verifier.proofs.NameLemmas.{finds_same, named_passes, passes_named}
 use Rattle.yr_verifier.proofs.naming.bad_named.Goals as goal
 

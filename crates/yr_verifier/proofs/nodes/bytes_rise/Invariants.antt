@@ -1,4 +1,4 @@
-use Rattle.std.proofs.Common.{ℕ, ◌<◌, ◌+◌, ◌≤◌, ◌≡◌, Some}
+use Rattle.std.proofs.Common.{ℕ, ◌<◌, ◌+◌, ◌≡◌, Some}
 use Rattle.std.specs.Prelude.{slice_get}
 use Rattle.yr_rows.specs.declared.nodes.EdgeRow.{EdgeRow}
 use Rattle.yr_image.specs.Views.{image_of}

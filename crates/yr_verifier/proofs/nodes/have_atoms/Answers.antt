@@ -1,4 +1,4 @@
-use Rattle.std.proofs.Common.{get_or, length, take, drop, refl, sym, ◌∙◌, subst, arith, true≢false}
+use Rattle.std.proofs.Common.{get_or, take, drop, refl, sym, ◌∙◌, subst, arith, true≢false}
 use Rattle.std.proofs.lemmas.Option.{slice_get_within, slice_get-get_or, get_or_from_slice_get}
 use Rattle.yr_image.specs.Views.{image_of}
 use Rattle.yr_machine.specs.Automaton.{HasAtomOf}

@@ -1,6 +1,5 @@
-use Rattle.std.proofs.Common.{List, length, ap, sym, ◌∙◌, subst, arith}
-use Rattle.yr_rows.specs.declared.moves.MoveRow.{MoveRow}
-use Rattle.yr_rows.specs.Moves.{AreWellformedMoves, moves_in, sets_in, program_moves}
+use Rattle.std.proofs.Common.{length, ap, sym, ◌∙◌, arith}
+use Rattle.yr_rows.specs.Moves.{moves_in, sets_in, program_moves}
 use Rattle.yr_verifier.proofs.ProgramLemmas.{moved}
 use Rattle.yr_verifier.proofs.programs.is_wellformed.Goals as goal
 

@@ -1,4 +1,4 @@
-use Rattle.std.proofs.Common.{◌≡◌, ℕ, ◌<◌, ◌≤◌, ⊎_elim, inl, inr, sym, ◌∙◌, arith, true≢false, below_more}
+use Rattle.std.proofs.Common.{⊎_elim, sym, ◌∙◌, arith, true≢false, below_more}
 use Rattle.std.proofs.lemmas.Bool.Decides.{leb_tells}
 use Rattle.yr_verifier.proofs.RowLemmas.{index_beyond}
 use Rattle.yr_verifier.proofs.rows.bad_row.Goals as goal

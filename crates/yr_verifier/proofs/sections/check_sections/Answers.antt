@@ -1,4 +1,4 @@
-use Rattle.std.proofs.Common.{◌≡◌, ◌+◌, ◌<◌, suc, refl, sym, ap, ◌∙◌, inl, arith, lit<, true≢false}
+use Rattle.std.proofs.Common.{◌≡◌, ◌+◌, suc, refl, sym, ap, ◌∙◌, inl, arith, lit<, true≢false}
 use Rattle.yr_image.specs.declared.fault.ImageFault.TheVariants.{TooShort, Section}
 use Rattle.yr_image.specs.Sections.{place_of, SectionFits}
 use Rattle.yr_verifier.proofs.ReachLemmas.{sections, one_next, one_check, one_fault}

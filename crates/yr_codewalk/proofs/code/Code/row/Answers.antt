@@ -1,4 +1,4 @@
-use Rattle.std.proofs.Common.{◌+◌, ◌<◌, ◌^◌, length, sym, ap, ◌∙◌, arith}
+use Rattle.std.proofs.Common.{◌∙◌, arith}
 use Rattle.yr_image.specs.Views.{image_of}
 use Rattle.yr_codewalk.proofs.RangeLemmas.{range_place, range_length}
 use Rattle.yr_codewalk.proofs.code.Code.row.Goals as goal

@@ -1,4 +1,4 @@
-use Rattle.std.proofs.Common.{◌≡◌, ◌≤◌, ℕ, ◌<◌, ◌+◌, ◌*◌, length, get_or}
+use Rattle.std.proofs.Common.{◌≡◌, ℕ, ◌<◌, ◌+◌, ◌*◌, length, get_or}
 use Rattle.yr_image.specs.Views.{image_of}
 use Rattle.yr_codewalk.specs.Blocks.{AreAtMost}
 use Rattle.yr_codewalk.proofs.lists.Lists.of.Given as goal

@@ -1,5 +1,4 @@
-use Rattle.std.proofs.Common.{sym, ap, ◌∙◌, ◌≡◌, ◌≤◌, Some, reverse, take, length, arith}
-use Rattle.std.proofs.lemmas.List.{length-take-le}
+use Rattle.std.proofs.Common.{sym, ap, ◌∙◌, Some, take}
 use Rattle.yr_machine.specs.CodeWalk.{take_kinds}
 use Rattle.yr_codewalk.specs.Stacks.{down_to}
 use Rattle.yr_codewalk.specs.Effects.{wants_of}

@@ -1,4 +1,4 @@
-use Rattle.std.proofs.Common.{◌≡◌, sym, ap, ◌∙◌, length, reverse, get_or, false}
+use Rattle.std.proofs.Common.{◌≡◌, ap, ◌∙◌, length, reverse, get_or, false}
 use Rattle.std.proofs.lemmas.Bool.{le-ltb}
 use Rattle.std.proofs.lemmas.Option.{slice_get-get_or}
 use Rattle.yr_machine.specs.Named.{is_loop}
