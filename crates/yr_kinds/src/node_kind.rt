@@ -10,7 +10,9 @@ ghost use Rattle.yr_kinds.specs.Open.{loop_of, open_of};
 ghost use Rattle.yr_kinds.specs.Parts.{range_kind, index_kind as kind_of_index, field_kind as kind_of_field};
 
 use crate::loops::{Loop, Loops, open_loop};
-use crate::operator_kind::{both, infix_kind, of_number, of_numbers, of_text, of_value, prefix_kind};
+use crate::operator_kind::{
+    both, infix_kind, of_number, of_numbers, of_text, of_value, prefix_kind,
+};
 use crate::prefixes::{behind, no_prefix, then};
 use yr_rules::{
     External, ExternalValue, Kind, Members, Node, NodeLink, NodeOver, NodePlace, NodeQuant,
@@ -103,7 +105,10 @@ fn kind_of(externals: &[External], node: &Node, loops: &Loops<'_>) -> Option<Kin
         Node::Var(number) => variable_kind(open_loop(loops, *number)),
         Node::Field { kind, index, .. } => field_kind(externals, *kind, index, loops),
         Node::Call {
-            kind, from, size, ..
+            kind,
+            from,
+            size,
+            ..
         } => of_numbers(
             kind_of(externals, from, loops),
             kind_of(externals, size, loops),
@@ -136,7 +141,10 @@ fn kind_of(externals: &[External], node: &Node, loops: &Loops<'_>) -> Option<Kin
             where_true(loop_fits(set), both(asked, body))
         }
         Node::ForIn {
-            quant, over, body, ..
+            quant,
+            over,
+            body,
+            ..
         } => {
             let asked = loop_asked_kind(externals, quant, loops);
             let domain = domain_kind(externals, over, loops);
@@ -185,11 +193,7 @@ fn field_kind(
 }
 
 #[cycle(kinds)]
-fn count_kind(
-    externals: &[External],
-    range: &Option<NodeRange>,
-    loops: &Loops<'_>,
-) -> Option<Kind>
+fn count_kind(externals: &[External], range: &Option<NodeRange>, loops: &Loops<'_>) -> Option<Kind>
     ensures { result ≡ range_kind (map external_of externals.now) (option_map bounds_of range.now) (open_of loops.now) }
 {
     match range {
@@ -203,11 +207,7 @@ fn count_kind(
 }
 
 #[cycle(kinds)]
-fn index_kind(
-    externals: &[External],
-    index: &Option<Box<Node>>,
-    loops: &Loops<'_>,
-) -> Option<Kind>
+fn index_kind(externals: &[External], index: &Option<Box<Node>>, loops: &Loops<'_>) -> Option<Kind>
     ensures { result ≡ kind_of_index (map external_of externals.now) (option_map tree_of (boxed index.now)) (open_of loops.now) }
 {
     match index {

@@ -72,7 +72,10 @@ fn node_weight(node: &Node, loops: &Loops<'_>) -> u64
             .saturating_add(node_weight(body, &Loops::Inside(Loop::Members, &*loops)))
             .saturating_add(16),
         Node::ForIn {
-            quant, over, body, ..
+            quant,
+            over,
+            body,
+            ..
         } => asked_weight(quant, loops)
             .saturating_add(domain_weight(over, loops))
             .saturating_add(node_weight(body, &Loops::Inside(loop_over(over), &*loops)))

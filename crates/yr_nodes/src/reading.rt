@@ -22,10 +22,7 @@ pub enum HexAnswer {
 /// What a text is as an expression.
 #[derive(Drop)]
 pub enum RegexAnswer {
-    Expression {
-        pattern: Pattern,
-        greedy: bool,
-    },
+    Expression { pattern: Pattern, greedy: bool },
     Syntax,
     /// The quantifier or range at this place is not allowed.
     Range(u32),

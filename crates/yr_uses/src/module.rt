@@ -47,11 +47,7 @@ fn is_entry_path(path: &[u8], array: &[u8], word: &[u8]) -> bool
 }
 
 /// The first row with the path of a field of an array's entries.
-pub fn find_entry_row<'a>(
-    rows: &'a [ModuleRow],
-    array: &[u8],
-    word: &[u8],
-) -> Option<&'a ModuleRow>
+pub fn find_entry_row<'a>(rows: &'a [ModuleRow], array: &[u8], word: &[u8]) -> Option<&'a ModuleRow>
     ensures entry { option_map (λ r. r.now.entry) result ≡ spec.row_named (map row_shown rows.now) (array.now ++ codes "[]." ++ word.now) }
     ensures path { IfSome result (λ r. array.now ++ codes "[]." ++ word.now ≡ r.now.path.items) }
 {

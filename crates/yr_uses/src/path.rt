@@ -43,11 +43,7 @@ fn steps_meaning<'a>(steps: &[PathStep], start: Meaning<'a>) -> Meaning<'a>
 }
 
 /// What the first part of a path leads to: it is a word.
-fn head_meaning<'a>(
-    around: &Around<'_, 'a>,
-    head: &PathStep,
-    scopes: &Scopes<'a>,
-) -> Meaning<'a>
+fn head_meaning<'a>(around: &Around<'_, 'a>, head: &PathStep, scopes: &Scopes<'a>) -> Meaning<'a>
     ensures { shown result ≡ start_meaning (around_of around.now) (step_of head.now) scopes.now }
 {
     match head {

@@ -67,11 +67,7 @@ fn add_set<'a>(set: &'a SetRef, uses: &mut Uses<'a>) -> Result<(), NoMemory>
 }
 
 /// A word, where it has no meaning.
-fn add_word<'a>(
-    word: &'a [u8],
-    meaning: Meaning<'a>,
-    uses: &mut Uses<'a>,
-) -> Result<(), NoMemory>
+fn add_word<'a>(word: &'a [u8], meaning: Meaning<'a>, uses: &mut Uses<'a>) -> Result<(), NoMemory>
     ensures { OnOk result (uses.new ≡ uses.old ++ spec.word_uses word.now (shown meaning.entry)) }
 {
     match meaning {

@@ -71,7 +71,14 @@ may-begin (Some q) None place end kept body below loops n = (gives end loops bel
 may-begin (Some q) (Some []) place end kept body below loops n = (gives end loops below (Flag (meets q 0 0)) n).0
 may-begin (Some q) (Some (t ∷ ts)) place end kept body below loops n =
     less-at (length loops) 4 (by-named (nat_lt (length loops) most_loops) (going (machine (place + 1) body (record {
-      place = place; end = end; quantifier = q; present = t; left = ts; total = length ts + 1; held = 0; kept = kept;
+      place = place;
+      end = end;
+      quantifier = q;
+      present = t;
+      left = ts;
+      total = length ts + 1;
+      held = 0;
+      kept = kept;
     } ∷ loops))) n).0
 
 drop-zero : (xs : List Value) → drop zero xs ≡ xs
@@ -113,13 +120,15 @@ module _ (context : Context) (truths : List Bool) (q : QuantifierKind) (end : �
       let wants = numbers 2 (quantity q) in
       let size : length wants ≡ 2 + n = numbers-length 2 (quantity q) in
       let go = λ (operands below : List Value). begin (loop_quantifier range operands) (turns_of context.image range operands) m.place end
-      (kept_by false wants) (below_body false m.stack below) below m.loops in
-      (omega (arith, size, operands-there wants m.stack go h), λ v w e.
-        operands-known wants m.stack go h
-        ∙ ap (λ k. go (take (length wants) m.stack) (drop k m.stack)) size
-        ∙ ap (λ operands. go operands (drop (2 + n) m.stack)) (front-two m.stack n w v e)
-        ∙ ap (λ rest. begin (quantifier_of q rest) (range_turns v w) m.place end 0 (drop (2 + n) m.stack) (drop (2 + n) m.stack) m.loops)
-        (drop-zero (take n (drop 2 m.stack))))
+      (kept_by false wants) (below_body false m.stack below) below m.loops in (
+        omega (arith, size, operands-there wants m.stack go h),
+        λ v w e.
+            operands-known wants m.stack go h
+            ∙ ap (λ k. go (take (length wants) m.stack) (drop k m.stack)) size
+            ∙ ap (λ operands. go operands (drop (2 + n) m.stack)) (front-two m.stack n w v e)
+            ∙ ap (λ rest. begin (quantifier_of q rest) (range_turns v w) m.place end 0 (drop (2 + n) m.stack) (drop (2 + n) m.stack) m.loops)
+            (drop-zero (take n (drop 2 m.stack))),
+      )
 
   -- a loop over strings
   pub strings-goes : (first rows : ℕ) → NotStuck (act_by context truths (role context.image (i.LoopStrings q end first rows)) (i.LoopStrings q end first rows) m) →
@@ -129,11 +138,12 @@ module _ (context : Context) (truths : List Bool) (q : QuantifierKind) (end : �
   strings-goes first rows h =
       let instr = i.LoopStrings q end first rows in
       let go = λ (operands below : List Value). begin (loop_quantifier instr operands) (turns_of context.image instr operands) m.place end
-      (kept_by false (quantity q)) (below_body false m.stack below) below m.loops in
-      (operands-there (quantity q) m.stack go h,
-      operands-known (quantity q) m.stack go h
-      ∙ ap (λ xs. begin (quantifier_of q (take n xs)) (Some (string_turns (members_of context.image first rows))) m.place end 0 (drop n m.stack) (drop n m.stack) m.loops)
-      (sym (drop-zero m.stack)))
+      (kept_by false (quantity q)) (below_body false m.stack below) below m.loops in (
+        operands-there (quantity q) m.stack go h,
+        operands-known (quantity q) m.stack go h
+            ∙ ap (λ xs. begin (quantifier_of q (take n xs)) (Some (string_turns (members_of context.image first rows))) m.place end 0 (drop n m.stack) (drop n m.stack) m.loops)
+            (sym (drop-zero m.stack)),
+      )
 
   -- a loop over a list
   pub list-goes : (items : ℕ) → NotStuck (act_by context truths (role context.image (i.LoopList q end items)) (i.LoopList q end items) m) →
@@ -148,13 +158,15 @@ module _ (context : Context) (truths : List Bool) (q : QuantifierKind) (end : �
       let go = λ (operands below : List Value). begin (loop_quantifier instr operands) (turns_of context.image instr operands) m.place end
       (kept_by true wants) (below_body true m.stack below) below m.loops in
       let by = λ (k : ℕ). begin (quantifier_of q (drop items (take k m.stack))) (Some (item_turns (reverse (take items (take k m.stack))))) m.place end k
-      m.stack (drop k m.stack) m.loops in
-      (omega (arith, size, operands-there wants m.stack go h), is-there (take_values wants m.stack) go h,
-      operands-known wants m.stack go h ∙ ap by size
-      ∙ ap (λ rest. begin (quantifier_of q rest) (Some (item_turns (reverse (take items (take (items + n) m.stack))))) m.place end (items + n)
-      m.stack (drop (items + n) m.stack) m.loops) (drop-take items n m.stack)
-      ∙ ap (λ all. begin (quantifier_of q (take n (drop items m.stack))) (Some (item_turns (reverse all))) m.place end (items + n)
-      m.stack (drop (items + n) m.stack) m.loops) (take-twice items n m.stack))
+      m.stack (drop k m.stack) m.loops in (
+        omega (arith, size, operands-there wants m.stack go h),
+        is-there (take_values wants m.stack) go h,
+        operands-known wants m.stack go h ∙ ap by size
+            ∙ ap (λ rest. begin (quantifier_of q rest) (Some (item_turns (reverse (take items (take (items + n) m.stack))))) m.place end (items + n)
+            m.stack (drop (items + n) m.stack) m.loops) (drop-take items n m.stack)
+            ∙ ap (λ all. begin (quantifier_of q (take n (drop items m.stack))) (Some (item_turns (reverse all))) m.place end (items + n)
+            m.stack (drop (items + n) m.stack) m.loops) (take-twice items n m.stack),
+      )
 
 -- the items of a list are numbers, or undefined
 suits-item : (v : Value) → suits (want.Of kind.Number) v ≡ true → IsItem v

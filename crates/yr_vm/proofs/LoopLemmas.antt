@@ -41,10 +41,13 @@ module _ {A : Type 0} (shows : A → Turn) (blank : A) where
     where
       on : (b : Bool) (x y : Option Turn) → b ≡ true → (if b then x else y) ≡ x
       on b x y e = ap (λ t. if t then x else y) e
+
       off : (b : Bool) (x y : Option Turn) → b ≡ false → (if b then x else y) ≡ y
       off b x y e = ap (λ t. if t then x else y) e
+
       differ : (a b : ℕ) → a < b → (a == b) ≡ false
       differ a b h = grind (arith, nat_tests)
+
       equal : (a b : ℕ) → a ≡ b → (a == b) ≡ true
       equal a b h = grind (arith, nat_tests)
 
@@ -87,15 +90,27 @@ pub listed : (lists : List ℕ) (l : kept.OpenLoop) (place end : ℕ) (quantifie
     present_shown l.present ∷ left_shown lists l.items l.left ≡ item_turns values → l.place ≡ place → l.end ≡ end → l.quantifier ≡ quantifier →
     l.total ≡ length values → l.held ≡ 0 → l.kept ≡ kept →
     loop_shown lists l ≡ record {
-      place = place; end = end; quantifier = quantifier; present = present_shown l.present; left = left_shown lists l.items l.left;
-      total = length (left_shown lists l.items l.left) + 1; held = 0; kept = kept;
+      place = place;
+      end = end;
+      quantifier = quantifier;
+      present = present_shown l.present;
+      left = left_shown lists l.items l.left;
+      total = length (left_shown lists l.items l.left) + 1;
+      held = 0;
+      kept = kept;
     }
 listed lists l place end quantifier values held kept turns is_place is_end is_quantifier is_total is_held is_kept =
     let count : length (present_shown l.present ∷ left_shown lists l.items l.left) ≡ length values = ap length turns ∙ length-map values Item in
     let total : l.total ≡ length (left_shown lists l.items l.left) + 1 = omega (arith, count, is_total) in
     λ i. record {
-      place = is_place i; end = is_end i; quantifier = is_quantifier i; present = present_shown l.present; left = left_shown lists l.items l.left;
-      total = total i; held = is_held i; kept = is_kept i;
+      place = is_place i;
+      end = is_end i;
+      quantifier = is_quantifier i;
+      present = present_shown l.present;
+      left = left_shown lists l.items l.left;
+      total = total i;
+      held = is_held i;
+      kept = is_kept i;
     }
 
 few-loops : (n : ℕ) → n < 4 → nat_lt n most_loops ≡ true
@@ -109,8 +124,14 @@ pub begin-some : (lists : List ℕ) (s : open_loops.Loops) (place end : ℕ) (q 
 begin-some lists s place end q turns body below few count =
     let loops = loops_shown lists s in
     let one = λ (total : ℕ). going (machine (place + 1) body (record {
-      place = place; end = end; quantifier = q; present = present_shown turns.present; left = left_shown lists [] turns.left;
-      total = total; held = 0; kept = 0;
+      place = place;
+      end = end;
+      quantifier = q;
+      present = present_shown turns.present;
+      left = left_shown lists [] turns.left;
+      total = total;
+      held = 0;
+      kept = 0;
     } ∷ loops)) in
     ap one (sym count)
     ∙ sym (ap (λ b. if b then one (length (left_shown lists [] turns.left) + 1) else stuck)
@@ -137,5 +158,12 @@ listed-begins s place end q values kept t ts lists later body below turns is may
     ap (λ (l : List OpenLoop). going (machine (place + 1) body l)) is
     ∙ sym (ap (λ us. begin (Some q) (Some us) place end kept body below loops) turns
     ∙ ap (λ b. if b then going (machine (place + 1) body (record {
-      place = place; end = end; quantifier = q; present = t; left = ts; total = length ts + 1; held = 0; kept = kept;
+      place = place;
+      end = end;
+      quantifier = q;
+      present = t;
+      left = ts;
+      total = length ts + 1;
+      held = 0;
+      kept = kept;
     } ∷ loops)) else stuck) (few-loops (length loops) (omega (arith, few, same-length lists s))))

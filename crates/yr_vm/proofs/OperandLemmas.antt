@@ -52,6 +52,7 @@ turn-known c answer below (l ∷ loops) n = by (l.place == c) n
   where
     next : Outcome
     next = next_turn l l.left (held_after answer l.held) below loops
+
     by : (b : Bool) → NotStuck (cond b next stuck) → cond b next stuck ≡ next
     by true h = refl
     by false h = absurd h

@@ -18,6 +18,7 @@ some-row rows place o instr e f = by (slice_get rows place) refl
     none : (p : Option CodeRow) → p ≡ None → option_and_then instruction_of p ≡ Some instr → ⊥
     none None q h = cc
     none (Some r) q h = cc
+
     by : (p : Option CodeRow) → slice_get rows place ≡ p → (r : CodeRow) × (slice_get rows place ≡ Some r)
     by None q = absurd (none (slice_get rows place) q (e ∙ f))
     by (Some r) q = (r, q)

@@ -41,6 +41,7 @@ current-inside turns c k e = by (turn_at turns c) refl
     none : (o : Option Turn) → o ≡ None → option_and_then member_in o ≡ Some k → ⊥
     none None q e = cc
     none (Some t) q e = cc
+
     by : (o : Option Turn) → turn_at turns c ≡ o → c < length turns
     by None q = absurd (none (turn_at turns c) q e)
     by (Some t) q = turn-inside turns c t q

@@ -111,12 +111,7 @@ pub fn begin_strings(
 }
 
 /// A loop over a list, whose items are on top and stay there.
-pub fn begin_list(
-    state: &mut State<'_>,
-    kind: QuantifierKind,
-    end: u32,
-    items: u64,
-) -> Option<bool>
+pub fn begin_list(state: &mut State<'_>, kind: QuantifierKind, end: u32, items: u64) -> Option<bool>
     requires near { state.old.place + 1 < 2 ^ 32 }
     requires some { 1 ≤ items }
     requires most { items ≤ 128 }
@@ -135,7 +130,9 @@ pub fn begin_list(
     match quantifier(&state.stack, items as usize, kind) {
         Some(quantifier) => {
             let values = state.stack.top(items as usize);
-            state.loops.open_list(state.place, end, quantifier, values, kept as u32);
+            state
+                .loops
+                .open_list(state.place, end, quantifier, values, kept as u32);
             state.place += 1;
         }
         None => leave(state, kept, end, Value::Undefined),

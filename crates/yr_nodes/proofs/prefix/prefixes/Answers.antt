@@ -9,7 +9,7 @@ pub loop-operand-preserved : goal.loop-operand-preserved
 loop-operand-preserved c =
     let same : c.deref-operand.result.now ≡ c.in-Prefix.inner.value = search rules in
     let is : tree.tree_of c.loop-operand.operand.now ≡ tree.Prefix c.in-Prefix.op (tree.tree_of c.deref-operand.result.now) =
-        ap tree.tree_of c.in-Prefix.is ∙ tree_of-Prefix c.in-Prefix.op c.in-Prefix.inner ∙ ap (λ x. tree.Prefix c.in-Prefix.op (tree.tree_of x)) (sym same) in
+    ap tree.tree_of c.in-Prefix.is ∙ tree_of-Prefix c.in-Prefix.op c.in-Prefix.inner ∙ ap (λ x. tree.Prefix c.in-Prefix.op (tree.tree_of x)) (sym same) in
     record {
       shape =
           prefix-step c.args.op c.in-Prefix.op c.loop-operand.ops.items c.push-in-Prefix.new.self.items (tree.tree_of c.args.inner.now) (tree.tree_of c.loop-operand.operand.now)

@@ -22,12 +22,22 @@ pub returns-clause-evaluation : goal.returns-clause-evaluation
 returns-clause-evaluation g c context of =
     let image : context.image ≡ image_of c.view.result = of.same_image ∙ ap image_in (sym c.view.ensures.bytes) in
     let known : Context = record {
-      image = image_of c.view.result; file = c.args.file.now; lists = c.args.matches.now.lists; externals = map shown c.args.externals.now;
-      fields = g.M.Modules.field_of c.args.modules.now; calls = g.M.Modules.call_of c.args.modules.now; occurs = context.occurs;
+      image = image_of c.view.result;
+      file = c.args.file.now;
+      lists = c.args.matches.now.lists;
+      externals = map shown c.args.externals.now;
+      fields = g.M.Modules.field_of c.args.modules.now;
+      calls = g.M.Modules.call_of c.args.modules.now;
+      occurs = context.occurs;
     } in
     let same : context ≡ known = λ i. record {
-      image = image i; file = of.same_file i; lists = of.same_lists i; externals = of.same_externals i; fields = of.same_fields i;
-      calls = of.same_calls i; occurs = context.occurs;
+      image = image i;
+      file = of.same_file i;
+      lists = of.same_lists i;
+      externals = of.same_externals i;
+      fields = of.same_fields i;
+      calls = of.same_calls i;
+      occurs = context.occurs;
     } in
     subst (λ (x : Context). IsEvaluation x (truths_shown c.run_rules.new.results) c.args.steps.now c.run_rules.new.steps) (sym same)
     (c.run_rules.ensures.evaluation context.occurs (subst KnowsPrograms same of.programs))

@@ -16,10 +16,12 @@ take-none [] = refl
 take-none (x ∷ xs) = refl
 
 pub loop-k-init : goal.loop-k-init
-loop-k-init g c =
-    ((λ occurs knows.
+loop-k-init g c = (
+  (λ occurs knows.
       subst (λ (truths : List Bool). AreFirst (context_of g.M.Modules.field_of g.M.Modules.call_of c.args.world.now occurs) 0 truths c.args.steps.now c.args.steps.now)
-      (sym (take-none c.args.results.now)) (first_none (context_of g.M.Modules.field_of g.M.Modules.call_of c.args.world.now occurs) c.args.steps.now)), refl)
+      (sym (take-none c.args.results.now)) (first_none (context_of g.M.Modules.field_of g.M.Modules.call_of c.args.world.now occurs) c.args.steps.now)),
+  refl,
+)
 
 pub overflow_cast-k : goal.overflow_cast-k
 overflow_cast-k g c =
@@ -37,8 +39,8 @@ run_code-truth-requires-clause-code g c =
     (code-wellformed (shown_bytes c.args.world.now.image) c.requires.wellformed c.loop-k.k c.rule-rule.result c.rule-rule.ensures)
 
 pub loop-k-preserved : goal.loop-k-preserved
-loop-k-preserved g c =
-    ((λ occurs knows.
+loop-k-preserved g c = (
+  (λ occurs knows.
       let context = context_of g.M.Modules.field_of g.M.Modules.call_of c.args.world.now occurs in
       let k = c.loop-k.k in
       let results = c.loop-k.results in
@@ -54,7 +56,8 @@ loop-k-preserved g c =
       r.least r.most in
       subst (λ n. AreFirst context n (truths_shown (take (k + 1) (set results k c.truth_of.result))) before later) one
       (subst (λ (ts : List Bool). AreFirst context (suc k) ts before later) (sym (truths-more results k c.truth_of.result truth inside c.truth_of.ensures)) next)),
-    c.run_code-truth.ensures.room ∙ c.loop-k.invariant.1)
+  c.run_code-truth.ensures.room ∙ c.loop-k.invariant.1,
+)
 
 pub returns-clause-evaluation : goal.returns-clause-evaluation
 returns-clause-evaluation g c occurs knows =

@@ -29,20 +29,22 @@ loop-truth-init g c =
     let image = image_of c.args.world.now.image in
     let begun : seen image.lists c.begin.new.self ≡ start = c.begin.ensures image.lists in
     let none : c.begin.new.self.stack ≡ [] = ap (λ (m : Machine). m.stack) begun in
-    let closed : loops_shown image.lists c.begin.new.self.loops ≡ [] = ap (λ (m : Machine). m.loops) begun in
-    ((λ occurs knows.
-      let world = c.args.world.now in
-      let image = image_of world.image in
-      let context = context_of g.M.Modules.field_of g.M.Modules.call_of world occurs in
-      let truths = truths_shown c.args.truths.now in
-      let rows = code_of image c.args.rule.now in
-      let x = longest_text context in
-      let most = code_cost image x rows in
-      subst (λ (m : Machine). Lives context truths rows x most most c.args.steps.now c.args.steps.now m) (sym begun)
-      (lives_first context truths rows x c.requires.externals c.requires.modules
-      (subst (λ n. IsWellformedCode image n rows) (sym (length-map c.args.truths.now is_yes)) c.requires.code) c.args.steps.now)),
-    subst (AreShort _) (sym none) tt,
-    subst (AreKept (length c.args.world.now.matches.now.lists)) (sym closed) tt, refl)
+    let closed : loops_shown image.lists c.begin.new.self.loops ≡ [] = ap (λ (m : Machine). m.loops) begun in (
+      (λ occurs knows.
+          let world = c.args.world.now in
+          let image = image_of world.image in
+          let context = context_of g.M.Modules.field_of g.M.Modules.call_of world occurs in
+          let truths = truths_shown c.args.truths.now in
+          let rows = code_of image c.args.rule.now in
+          let x = longest_text context in
+          let most = code_cost image x rows in
+          subst (λ (m : Machine). Lives context truths rows x most most c.args.steps.now c.args.steps.now m) (sym begun)
+          (lives_first context truths rows x c.requires.externals c.requires.modules
+          (subst (λ n. IsWellformedCode image n rows) (sym (length-map c.args.truths.now is_yes)) c.requires.code) c.args.steps.now)),
+      subst (AreShort _) (sym none) tt,
+      subst (AreKept (length c.args.world.now.matches.now.lists)) (sym closed) tt,
+      refl,
+    )
 
 pub step-requires-clause-externals : goal.step-requires-clause-externals
 step-requires-clause-externals g c = sym (length-map c.args.world.now.externals.now shown) ∙ c.requires.externals.count
@@ -162,8 +164,9 @@ loop-truth-preserved g c =
     let later = c.step.new.steps in
     let m1 = seen image.lists c.step.new.state in
     let q : step context truths rows m ≡ going m1 =
-    sym (c.step.ensures.outcome occurs knows) ∙ ap (λ (r : Option Bool). outcome_of image.lists r c.step.new.state) c.in_default.is in
-    (lives-on g c,
-    step-short x context c.requires.externals c.requires.modules (text-bounds context) truths rows m m1 q c.loop-truth.invariant.1,
-    step-kept (length world.matches.now.lists) context truths c.requires.lists rows m m1 q c.loop-truth.invariant.2,
-    c.step.ensures.room ∙ c.loop-truth.invariant.3)
+    sym (c.step.ensures.outcome occurs knows) ∙ ap (λ (r : Option Bool). outcome_of image.lists r c.step.new.state) c.in_default.is in (
+      lives-on g c,
+      step-short x context c.requires.externals c.requires.modules (text-bounds context) truths rows m m1 q c.loop-truth.invariant.1,
+      step-kept (length world.matches.now.lists) context truths c.requires.lists rows m m1 q c.loop-truth.invariant.2,
+      c.step.ensures.room ∙ c.loop-truth.invariant.3,
+    )
