@@ -212,6 +212,31 @@ abbrev pub prefix_by : Option PrefixOp → Outcome Condition → Outcome Conditi
 prefix_by None inner other = other
 prefix_by (Some o) inner other = and_then inner (λ c. pure (tree.Prefix o c))
 
+-- ---- a run of prefix operators, where the argument `at` says which operator comes next
+
+abbrev pub operators_by : Option PrefixOp → List PrefixOp → List PrefixOp
+operators_by None more = []
+operators_by (Some o) more = o ∷ more
+
+-- the operators that follow one another
+unfoldable pub run_of : (Terminals → Option PrefixOp) → Terminals → List PrefixOp
+run_of at [] = []
+run_of at (t ∷ k) = operators_by (at (t ∷ k)) (run_of at k)
+
+abbrev pub rest_by : Option PrefixOp → Terminals → Terminals → Terminals
+rest_by None here later = here
+rest_by (Some o) here later = later
+
+-- the terminals after them
+unfoldable pub after_run : (Terminals → Option PrefixOp) → Terminals → Terminals
+after_run at [] = []
+after_run at (t ∷ k) = rest_by (at (t ∷ k)) (t ∷ k) (after_run at k)
+
+-- an operand with these operators before it
+abbrev pub prefixed : List PrefixOp → Condition → Condition
+prefixed [] c = c
+prefixed (o ∷ os) c = tree.Prefix o (prefixed os c)
+
 -- ---- the parts, where `inner` reads what stands between brackets
 
 module _ (inner : Entry → Parser Condition) where

@@ -18,6 +18,7 @@ mod modifiers;
 mod parsing;
 mod path;
 mod place;
+mod prefix;
 mod primary;
 mod reading;
 mod rules;
@@ -31,5 +32,5 @@ mod tests;
 
 pub use answering::tokens_have_an_answer;
 pub use fault::ParseFault;
-pub use laws::{one_answer, small_conditions, unescaped_texts};
+pub use laws::{all_have_terminals, one_answer, small_conditions, unescaped_texts};
 pub use parsing::parse;

@@ -18,6 +18,7 @@ pub fn many<T: Drop, O: Fn(&mut Cursor<'_>) -> Result<Option<T>, Fault>>(
     ensures { Ran (O.post next) (length tokens.old) tokens.old (items_in result) tokens.new }
 {
     let mut found = Vec::new(alloc);
+    // Each item takes a terminal at least, so that there are no more of them than terminals are left.
     for _turn in 0..tokens.left() {
         let Some(item) = next(tokens)? else {
             return Ok(found);

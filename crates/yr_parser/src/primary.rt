@@ -13,6 +13,7 @@ use crate::grammar::Grammar;
 use crate::level::Entry;
 use crate::lexeme::Lexeme;
 use crate::making;
+use crate::prefix::{prefixed, prefixes};
 use crate::sign::Sign;
 use std::alloc::Global;
 use yr_syntax::{Cond, Reader};
@@ -145,16 +146,13 @@ impl<F: Fn(Global, &mut Cursor<'_>, usize, Entry) -> Result<Cond, Fault>> Gramma
         }
     }
 
-    #[tactic(auto, using(crate::proofs::Steps::prefix_rules))]
+    #[tactic(auto, using(crate::proofs::Steps::unary_run))]
     pub fn unary(&self, tokens: &mut Cursor<'_>) -> Result<Cond, Fault>
         requires { Nests self.now.depth (F.pre self.now.inner) (F.post self.now.inner) }
         ensures { Gives tree.tree_of (reading.read_unary (reading.cond_at self.now.depth) tokens.old) result tokens.new }
     {
-        let Some(op) = tokens.prefix() else {
-            return self.primary(tokens);
-        };
-        tokens.skip();
-        let inner = self.unary(tokens)?;
-        Ok(making::prefix(self.alloc, op, inner)?)
+        let ops = prefixes(self.alloc, tokens)?;
+        let operand = self.primary(tokens)?;
+        Ok(prefixed(self.alloc, ops, operand)?)
     }
 }

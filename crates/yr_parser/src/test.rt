@@ -14,6 +14,7 @@ use crate::level::{Entry, Level};
 use crate::lexeme::Lexeme;
 use crate::links::links;
 use crate::making;
+use crate::prefix::{negations, prefixed};
 use crate::sets::set;
 use crate::sign::Sign;
 use std::alloc::Global;
@@ -239,17 +240,14 @@ impl<F: Fn(Global, &mut Cursor<'_>, usize, Entry) -> Result<Cond, Fault>> Gramma
         }
     }
 
-    #[tactic(auto, using(crate::proofs::Steps::negation_rules))]
+    #[tactic(auto, using(crate::proofs::Steps::not_run))]
     fn not(&self, tokens: &mut Cursor<'_>) -> Result<Cond, Fault>
         requires { Nests self.now.depth (F.pre self.now.inner) (F.post self.now.inner) }
         ensures { Gives tree.tree_of (reading.read_not (reading.cond_at self.now.depth) tokens.old) result tokens.new }
     {
-        let Some(op) = tokens.negates() else {
-            return self.test(tokens);
-        };
-        tokens.skip();
-        let inner = self.not(tokens)?;
-        Ok(making::prefix(self.alloc, op, inner)?)
+        let ops = negations(self.alloc, tokens)?;
+        let operand = self.test(tokens)?;
+        Ok(prefixed(self.alloc, ops, operand)?)
     }
 
     #[tactic(auto, unfolding(crate::specs::Reading::read_and, crate::specs::Reading::level_from))]

@@ -1,5 +1,0 @@
-use Rattle.std.proofs.Common.{length}
-use Rattle.yr_parser.proofs.grammar.Grammar.+unary.Given as goal
-
-abbrev pub decreases-unary : goal.decreases-unary
-decreases-unary g l = length l.tokens.now
