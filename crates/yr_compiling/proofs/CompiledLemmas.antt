@@ -1,5 +1,5 @@
 -- The encoding of tables that are built of rules is an image to which the rules may be compiled.
-use Rattle.std.proofs.Common.{◌≡◌, ℕ, zero, suc, ◌↔◌, ℤ, Bool, true, IsTrue, List, [], ◌∷◌, length, map, All, option_map, slice_get, get_or, refl, sym, ap, ap₂, ◌∙◌, subst, arith}
+use Rattle.std.proofs.Common.{◌≡◌, ℕ, zero, suc, ◌↔◌, ℤ, Bool, true, false, IsTrue, List, [], ◌∷◌, length, map, All, option_map, slice_get, get_or, refl, sym, ap, ap₂, ◌∙◌, subst, arith}
 use Rattle.std.specs.Option.{option_map_or}
 use Rattle.std.proofs.lemmas.Option.{slice_get-get_or}
 use Rattle.yr_base.specs.Bytes.{AreBytes}
@@ -12,6 +12,7 @@ use Rattle.yr_meaning.specs.Fitting.{FitsKinds}
 use Rattle.yr_meaning.specs.Matches.{match_lists_of}
 use Rattle.yr_meaning.specs.Truths.{truths_of}
 use Rattle.yr_meaning.specs.Scan.{ModuleValues, scan_report}
+use Rattle.yr_meaning.specs.Scan as plain
 use Rattle.yr_image.specs.declared.fault.ImageFault.TheVariants as fault
 use Rattle.yr_image.specs.declared.rows.SplitRow.{SplitRow}
 use Rattle.yr_image.specs.declared.tables.Tables.{Tables}
@@ -40,9 +41,10 @@ use Rattle.yr_code.specs.Preserves.{IsTarget, HaveKindsOf, external_in, external
 use Rattle.yr_code.specs.AtomLengths.{HasLongAtom, KeepsAtomLengths}
 use Rattle.yr_code.specs.Shape.{IsTrie, IsCompiled}
 use Rattle.yr_compiling.specs.Built.{IsBuilt, HaveIds}
+use Rattle.yr_compiling.specs.Finds.{FindsSame}
 use Rattle.yr_compiling.proofs.CheckLemmas.{rows_pass, names_pass, no_fault, programs_pass, nodes_pass}
 use Rattle.yr_compiling.proofs.TruthLemmas.{truths_are}
-use Rattle.yr_compiling.proofs.ReportLemmas.{same_report, lists_found}
+use Rattle.yr_compiling.proofs.ReportLemmas.{same_report, same_found, same_lists, lists_found}
 
 all_zero : {X : Type 0} (xs : List X) (k : ℕ) → option_map_or (λ (sum : ℕ). sum) (slice_get (map (λ (x : X). 0) xs) k) 0 ≡ 0
 all_zero [] k = refl
@@ -126,6 +128,18 @@ module _ (known : Known) (tables : Tables) (rules : PlainRules) (good : IsWellfo
       calls_fit = λ id from size. subst (λ (g : ℕ → ℤ → ℤ → Value). Suits (call_row_of id) (g id from size)) (sym c) (modules_fit.calls id from size);
     }
 
+    found_same : (s : ImageScan modules bytes file values)
+        → (s.context.lists ≡ match_lists_of file rules.strings) × (s.truths ≡ truths_of (plain.environment_of modules rules values file) rules.rules)
+    found_same s =
+        let context = s.context in
+        let run = s.run in
+        let built_here : IsBuilt context.image rules = subst (λ (i : Image). IsBuilt i rules) (sym (s.image ∙ read_back)) built in
+        let file_bytes : AreBytes context.file = subst AreBytes (sym s.file_is) target_fits.0 in
+        let fit = fits_kinds context s.externals s.fields s.calls in
+        (same_lists context rules good ids built_here run.programs fit file_bytes s.hits run.hits_are run.lists_are ∙ ap (λ (f : List ℕ). match_lists_of f rules.strings) s.file_is,
+        same_found context rules good ids built_here run.programs fit file_bytes s.hits run.hits_are run.lists_are s.truths run.truths_are modules s.fields s.calls
+        ∙ ap₂ (λ (v : List Value) (f : List ℕ). truths_of (plain.environment_of modules rules v f) rules.rules) s.externals s.file_is)
+
     report_read : (count : ℕ) → IsImageReport modules bytes file values options target text count → text ≡ scan_report modules rules values file options target
     report_read count r =
         let s = r.scan in
@@ -184,3 +198,10 @@ module _ (known : Known) (tables : Tables) (rules : PlainRules) (good : IsWellfo
     atoms = atoms_long;
     automaton = trie;
   }
+
+  -- it finds what the rules say
+  pub finds : (modules : List ℕ → ModuleValues) → KeepsKinds modules → FindsSame modules bytes rules
+  finds modules keeps file fit values kinds scan = found_same (modules file) file fit values kinds (keeps file) none [] [] scan
+    where
+      none : ReportOptions
+      none = record { strings = false; tags = false; meta = false; negate = false; count = false; spaces = false }

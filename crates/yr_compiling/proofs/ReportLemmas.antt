@@ -56,17 +56,26 @@ module _ (context : Context) (rules : PlainRules) (good : IsWellformed rules) (i
   pub lists_found : context.lists ≡ match_lists_of context.file rules.strings → AreImageMatches context.image context.file hits context.lists
   lists_found e = (only_lists context.image built.placed rules.strings (stands_for context.image rules built) context.file bytes hits are context.lists).1 e
 
-  pub same_report : AreImageMatches context.image context.file hits context.lists → (truths : List Bool) → AreImageTruths context truths
-      → (modules : ModuleValues) → context.fields ≡ modules.fields → context.calls ≡ modules.calls → (options : ReportOptions) (target : List ℕ)
-      → image_report context.image truths context.lists options target ≡ scan_report modules rules context.externals context.file options target
-  same_report matches truths found modules fields calls options target =
+  -- the truths are those of the rules
+  pub same_found : AreImageMatches context.image context.file hits context.lists → (truths : List Bool) → AreImageTruths context truths
+      → (modules : ModuleValues) → context.fields ≡ modules.fields → context.calls ≡ modules.calls
+      → truths ≡ truths_of (scan.environment_of modules rules context.externals context.file) rules.rules
+  same_found matches truths found modules fields calls =
       let lists = same_lists matches in
       let first : Environment = environment_of context [] in
       let second : Environment = scan.environment_of modules rules context.externals context.file in
       let env : first ≡ second = λ i. record { file = context.file; lists = lists i; externals = context.externals; fields = fields i; calls = calls i; truths = [] } in
       let one : truths ≡ truths_of first rules.rules =
       same_truths context truths (truths_of first rules.rules) found (truths_are context rules good ids built knows kinds) in
-      let all : truths ≡ truths_of second rules.rules = one ∙ ap (λ e. truths_of e rules.rules) env in
+      one ∙ ap (λ e. truths_of e rules.rules) env
+
+  pub same_report : AreImageMatches context.image context.file hits context.lists → (truths : List Bool) → AreImageTruths context truths
+      → (modules : ModuleValues) → context.fields ≡ modules.fields → context.calls ≡ modules.calls → (options : ReportOptions) (target : List ℕ)
+      → image_report context.image truths context.lists options target ≡ scan_report modules rules context.externals context.file options target
+  same_report matches truths found modules fields calls options target =
+      let lists = same_lists matches in
+      let all : truths ≡ truths_of (scan.environment_of modules rules context.externals context.file) rules.rules =
+      same_found matches truths found modules fields calls in
       let listed : listed_rules context.image ≡ plain.listed_rules rules =
       rules_shown context.image built.version rules.strings (names_said context.image rules built) rules.rules built.codes built.listed in
       ap (λ (l : List ListedRule). report_of l truths context.lists options target) listed

@@ -10,6 +10,7 @@ ghost use Rattle.yr_image.specs.Fits.{Fits};
 ghost use Rattle.yr_code.specs.ImageReport.{KeepsKinds};
 ghost use Rattle.yr_code.specs.Shape.{IsCompiled};
 ghost use Rattle.yr_compiling.specs.Built.{HaveIds, IsBuilt};
+ghost use Rattle.yr_compiling.specs.Finds.{FindsSame};
 ghost use Rattle.yr_tables.specs.Added.{empty_image};
 
 use crate::code::put_codes;
@@ -41,6 +42,9 @@ pub fn compile(alloc: Global, rules: &CheckedRules) -> Result<Tables, NoMemory>
     requires { HaveIds (rules_of rules.now) }
     ensures compiled { IfOk result (λ tables. Fits (shown tables) → (modules : List ℕ → ModuleValues) → KeepsKinds modules
         → IsCompiled modules (encoded (shown tables)) (rules_of rules.now)) }
+    // It finds the same matches and truths.
+    ensures finds { IfOk result (λ tables. Fits (shown tables) → (modules : List ℕ → ModuleValues) → KeepsKinds modules
+        → FindsSame modules (encoded (shown tables)) (rules_of rules.now)) }
     ensures short { IfOk result (λ tables. encoded_length (shown tables) < 2 ^ 32) }
 {
     some_programs_are_known();

@@ -11,6 +11,7 @@ ghost use Rattle.yr_image.specs.Fits.{Fits};
 ghost use Rattle.yr_code.specs.ImageReport.{KeepsKinds};
 ghost use Rattle.yr_code.specs.Shape.{IsCompiled};
 ghost use Rattle.yr_compiling.specs.Built.{IsBuilt, HaveIds};
+ghost use Rattle.yr_compiling.specs.Finds.{FindsSame};
 
 use yr_machine::laws::some_programs_are_known;
 
@@ -19,6 +20,14 @@ use yr_machine::laws::some_programs_are_known;
 pub fn built_is_compiled()
     ensures { (tables : Tables) (rules : PlainRules) → IsWellformed rules → HaveIds rules → IsBuilt (shown tables) rules → Fits (shown tables)
         → (modules : List ℕ → ModuleValues) → KeepsKinds modules → IsCompiled modules (encoded (shown tables)) rules }
+{
+    some_programs_are_known();
+}
+
+/// The same tables find what the rules say.
+pub fn built_finds_the_same()
+    ensures { (tables : Tables) (rules : PlainRules) → IsWellformed rules → HaveIds rules → IsBuilt (shown tables) rules → Fits (shown tables)
+        → (modules : List ℕ → ModuleValues) → KeepsKinds modules → FindsSame modules (encoded (shown tables)) rules }
 {
     some_programs_are_known();
 }

@@ -3,7 +3,7 @@ use Rattle.yr_rules.specs.Rules.{rules_of}
 use Rattle.yr_image.specs.Image.{Image, shown}
 use Rattle.yr_compiling.specs.Built.{IsBuilt}
 use Rattle.yr_compiling.proofs.BuildLemmas.{below}
-use Rattle.yr_compiling.proofs.CompiledLemmas.{compiled}
+use Rattle.yr_compiling.proofs.CompiledLemmas.{compiled, finds}
 use Rattle.yr_compiling.proofs.compiling.compile.Goals as goal
 
 pub returns-clause-compiled : goal.returns-clause-compiled
@@ -12,6 +12,13 @@ returns-clause-compiled c = λ fits modules keeps.
     let P : Image → Type 0 = λ i. IsBuilt i rules in
     let built = subst P (sym c.finish.ensures) c.in_ok-fill.ensures.built in
     compiled c.some_programs_are_known.ensures c.finish.result rules c.in_ok-fill.ensures.wellformed c.requires built fits modules keeps
+
+pub returns-clause-finds : goal.returns-clause-finds
+returns-clause-finds c = λ fits modules keeps.
+    let rules = rules_of c.args.rules.now in
+    let P : Image → Type 0 = λ i. IsBuilt i rules in
+    let built = subst P (sym c.finish.ensures) c.in_ok-fill.ensures.built in
+    finds c.some_programs_are_known.ensures c.finish.result rules c.in_ok-fill.ensures.wellformed c.requires built fits modules keeps
 
 pub returns-clause-short : goal.returns-clause-short
 returns-clause-short c =

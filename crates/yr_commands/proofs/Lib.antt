@@ -1,0 +1,5 @@
+pub mod CommandLemmas
+pub mod SizeLemmas
+pub mod StepLemmas
+pub mod WorkLemmas
+pub mod RunLemmas
