@@ -1,0 +1,3 @@
+mod FinishLemmas
+pub mod CallerLemmas
+pub mod CauseLemmas
