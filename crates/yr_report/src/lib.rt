@@ -1,0 +1,17 @@
+//! The report on a scan, line by line.
+#![tactic(auto)]
+
+mod adding;
+mod counting;
+mod gate;
+mod line;
+mod matching;
+mod note;
+mod number;
+mod quoting;
+mod rule;
+mod scene;
+mod string;
+mod text;
+
+pub use rule::put_rule;
