@@ -1,8 +1,9 @@
 -- Pieces added one after another.
 use Rattle.yr_base.specs.Causes.{HasRisen}
-use Rattle.std.proofs.Common.{◌≡◌, ℕ, true, false, ◌≤◌, arith, List, [], ◌∷◌, ◌++◌, Option, Result, Ok, Err, refl, sym, ap, subst, ◌∙◌, append_assoc, append-nil}
+use Rattle.std.proofs.Common.{◌≡◌, ℕ, Bool, true, false, ◌≤◌, arith, List, [], ◌∷◌, ◌++◌, Option, Result, Ok, Err, refl, sym, ap, subst, ◌∙◌, append_assoc, append-nil}
 use Rattle.std.specs.Result.{IsErr}
 use Rattle.yr_base.specs.Told.{told_more, AddsPrefix, told_more-nil, told_more-more}
+use Rattle.yr_answer.specs.Report.{on_request}
 use Rattle.yr_report.specs.declared.line.Failed.{Failed}
 use Rattle.yr_report.specs.Adding.{Added, Adds}
 
@@ -122,3 +123,27 @@ pub goes-breaks : {old now new : Option (List ℕ)} {p q rest all : List ℕ} (r
     → before ≤ mid → Goes old now p q rest all → rest ≡ x ++ more → HasRisen mid later × AddsPrefix now new (q ++ x) → Adds old new p r all result before later
 goes-breaks r (Ok u) before mid later x more is b g e h = let never : false ≡ true = is in absurd cc
 goes-breaks r (Err f) before mid later x more is b g e h = goes-fails before mid later x more b g e h
+
+-- ---- what is asked for
+
+pub added-unasked : (old : Option (List ℕ)) (before text : List ℕ) (b : Bool) → b ≡ false → Added old old before before (on_request b text)
+added-unasked old before text true h = let never : true ≡ false = h in absurd cc
+added-unasked old before text false h = added-nothing old before
+
+pub adds-asked : (old new : Option (List ℕ)) (before after text : List ℕ) (result : Result (Unit {0}) Failed) (faults later : ℕ) (b : Bool) → b ≡ true
+    → Adds old new before after text result faults later → Adds old new before after (on_request b text) result faults later
+adds-asked old new before after text result faults later true h a = a
+adds-asked old new before after text result faults later false h a = let never : false ≡ true = h in absurd cc
+
+-- ---- the whole report, where nothing waits before and after
+
+pub put-whole : (old new : Option (List ℕ)) (p r found wanted : List ℕ) → p ≡ [] → r ≡ [] → found ≡ wanted → Added old new p r found → new ≡ told_more old wanted
+put-whole old new p r found wanted before after same a =
+    let all : wanted ≡ a.bytes =
+    sym same ∙ ap (λ l. l ++ found) (sym before) ∙ a.whole ∙ ap (λ l. a.bytes ++ l) after ∙ append-nil a.bytes in
+    a.put ∙ ap (told_more old) (sym all)
+
+pub put-part : (old new : Option (List ℕ)) (p found wanted : List ℕ) → p ≡ [] → found ≡ wanted → AddsPrefix old new (p ++ found) → AddsPrefix old new wanted
+put-part old new p found wanted before same a =
+    let all : p ++ found ≡ wanted = ap (λ l. l ++ found) before ∙ same in
+    subst (λ (l : List ℕ). AddsPrefix old new l) all a

@@ -3,5 +3,5 @@ pub mod RangeLemmas
 pub mod RowLemmas
 pub mod EntryLemmas
 pub mod JudgedLemmas
+pub mod CallerLemmas
 mod Hexadecimal
-pub mod Tmp

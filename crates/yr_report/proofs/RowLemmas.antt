@@ -14,7 +14,7 @@ use Rattle.yr_image.specs.Reading.{image_in, zeros_in, rule_row, note_row, strin
 use Rattle.yr_image.specs.Sections.{rule_width, version_in, size_of, place_of, bytes_of}
 use Rattle.yr_machine.specs.Rows.{end_before, notes_end, strings_end, code_end, ends_sections, is_good_rule, is_good_without_rules, row_passes}
 use Rattle.yr_machine.specs.Wellformed.{IsWellformed}
-use Rattle.yr_report.proofs.Tmp.{has_sections}
+use Rattle.yr_verifier.proofs.CallerLemmas.{has_sections}
 use Rattle.yr_report.specs.Scenes.{HasRanges}
 use Rattle.yr_report.proofs.RangeLemmas.{there}
 
@@ -103,8 +103,8 @@ placed image k row h0 =
           );
     }
 
-passes-at : {A : Type 0} (test : A → Bool) (rows : List A) (k : ℕ) (row : A) → row_passes test rows k ≡ true → slice_get rows k ≡ Some row → test row ≡ true
-passes-at test rows k row h e = ap (λ o. option_map_or test o true) (sym e) ∙ h
+passes-at : {A : Type 0} (image : Image) (test : A → Bool) (rows : List A) (k : ℕ) (row : A) → row_passes image test rows k ≡ true → slice_get rows k ≡ Some row → test row ≡ true
+passes-at image test rows k row h e = ap (λ o. option_map_or test o true) (sym e) ∙ h
 
 module _ (image : Image) (good : (k : ℕ) (row : RuleRow) → slice_get image.rules k ≡ Some row → IsPlaced image k row) where
   -- each row ends before the next begins, and the last ends with its section
@@ -124,7 +124,7 @@ pub has-ranges : (bytes : List ℕ) → IsWellformed bytes → (k : ℕ) (row : 
 has-ranges bytes w k row at =
     let image = image_in bytes in
     let good : (n : ℕ) (r : RuleRow) → slice_get image.rules n ≡ Some r → IsPlaced image n r = λ n r e.
-        placed image n r (passes-at (is_good_rule image n) image.rules n r (and-first (row_passes (is_good_rule image n) image.rules n) (nat_lt 0 n || is_good_without_rules image) (w (Index 0 n))) e) in
+        placed image n r (passes-at image (is_good_rule image n) image.rules n r (and-first (row_passes image (is_good_rule image n) image.rules n) (nat_lt 0 n || is_good_without_rules image) (w (Index 0 n))) e) in
     let lt = slice_get_within image.rules k row at in
     let last : k + suc (length image.rules - (k + 1)) ≡ length image.rules = omega (arith, lt) in
     let both = within image good (length image.rules - (k + 1)) k row last at in

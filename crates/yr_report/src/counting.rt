@@ -1,6 +1,6 @@
 //! Which rules are reported, and how many.
 
-ghost use Rattle.std.specs.Prelude.{◌≡◌, Bool, not, length};
+ghost use Rattle.std.specs.Prelude.{◌≡◌, ◌+◌, ◌<◌, ◌≤◌, ◌^◌, Bool, cond, not, length};
 ghost use Rattle.yr_answer.specs.Reported.{is_reported, reported_of};
 ghost use Rattle.yr_values.specs.Comparisons.{flag_eq};
 ghost use Rattle.yr_answer.specs.Truths.{is_yes, truths_shown};
@@ -32,6 +32,15 @@ pub fn is_reported(scene: &Scene<'_, '_>, rule: &RuleRow, truth: Truth, gate: Ga
         && !gate.shut
 }
 
+// One more where it is so.
+fn plus(count: u64, more: bool) -> u64
+    requires { count + 1 < 2 ^ 64 }
+    ensures value { result ≡ cond more 1 0 + count }
+    ensures within { result ≤ count + 1 }
+{
+    if more { count + 1 } else { count }
+}
+
 /// How many rules are reported.
 pub fn count_reported(scene: &Scene<'_, '_>) -> u64
     requires good { IsGoodScene scene.now }
@@ -42,9 +51,7 @@ pub fn count_reported(scene: &Scene<'_, '_>) -> u64
     for k in 0..scene.results.len() {
         let rule = scene.view.rule(k as u32);
         gate = gate_of(scene, gate, namespace(&scene.view, &rule));
-        if is_reported(scene, &rule, scene.results[k], gate) {
-            count += 1;
-        }
+        count = plus(count, is_reported(scene, &rule, scene.results[k], gate));
     }
     count
 }

@@ -13,5 +13,6 @@ mod rule;
 mod scene;
 mod string;
 mod text;
+mod writing;
 
-pub use rule::put_rule;
+pub use writing::write_report;

@@ -1,6 +1,6 @@
 //! The tags and the meta of a rule, in brackets.
 
-ghost use Rattle.std.specs.Prelude.{◌≡◌, ◌≤◌, ◌<◌, ◌+◌, ◌^◌, ◌||◌, false, length, filter, codes};
+ghost use Rattle.std.specs.Prelude.{◌≡◌, ◌≤◌, ◌<◌, ◌+◌, ◌^◌, ◌++◌, ◌||◌, false, length, filter, codes};
 ghost use Rattle.std.specs.Fmt.{signed_decimal};
 ghost use Rattle.yr_answer.specs.Listing.{MetaFlag};
 ghost use Rattle.yr_answer.specs.Report.{on_request, bracketed, entry_text, value_text};
@@ -13,7 +13,7 @@ ghost use Rattle.yr_report.specs.Entries.{is_asked, note_text, entry, entries};
 use crate::adding::add_all;
 use crate::line::{Failed, Line};
 use crate::quoting::add_quoted;
-use crate::text::text;
+use crate::text::{note_name, text};
 use itoa::Buffer;
 use yr_base::Sink;
 use yr_image::{ImageView, NoteRow, RuleRow};
@@ -59,7 +59,7 @@ fn add_meta<O: Sink>(
     ensures later { O.faults out.old ≤ O.faults out.new }
     ensures added { Adds (O.written out.old) (O.written out.new) (waiting line.old) (waiting line.new) (entry_text (listed_meta (image_of view.now) note.now)) result (O.faults out.old) (O.faults out.new) }
 {
-    add_all(line, out, &[text(view, u64::from(note.name_place), note.name_length), b"="])?;
+    add_all(line, out, &[note_name(view, note), b"="])?;
     add_value(view, line, out, note)
 }
 
@@ -75,7 +75,7 @@ fn add_note<O: Sink>(
     ensures added { Adds (O.written out.old) (O.written out.new) (waiting line.old) (waiting line.new) (note_text (image_of view.now) tags note.now) result (O.faults out.old) (O.faults out.new) }
 {
     if tags {
-        line.add(out, text(view, u64::from(note.name_place), note.name_length))
+        line.add(out, note_name(view, note))
     } else {
         add_meta(view, line, out, note)
     }
@@ -101,6 +101,22 @@ fn add_comma<O: Sink>(line: &mut Line, out: &mut O, some: bool) -> Result<(), Fa
     if some { line.add(out, b",") } else { Ok(()) }
 }
 
+// Adds a note, with a comma before it where another stands before.
+fn add_next<O: Sink>(
+    view: &ImageView<'_>,
+    line: &mut Line,
+    out: &mut O,
+    note: &NoteRow,
+    tags: bool,
+    some: bool,
+) -> Result<(), Failed>
+    ensures later { O.faults out.old ≤ O.faults out.new }
+    ensures added { Adds (O.written out.old) (O.written out.new) (waiting line.old) (waiting line.new) (on_request some (codes ",") ++ note_text (image_of view.now) tags note.now) result (O.faults out.old) (O.faults out.new) }
+{
+    add_comma(line, out, some)?;
+    add_note(view, line, out, note, tags)
+}
+
 // Adds a note where it is asked for; `some` says that another stands before it.
 fn add_entry<O: Sink>(
     view: &ImageView<'_>,
@@ -113,11 +129,11 @@ fn add_entry<O: Sink>(
     ensures later { O.faults out.old ≤ O.faults out.new }
     ensures added { Adds (O.written out.old) (O.written out.new) (waiting line.old) (waiting line.new) (entry (is_asked tags) (note_text (image_of view.now) tags) some note.now) result (O.faults out.old) (O.faults out.new) }
 {
-    if !is_asked(note, tags) {
-        return Ok(());
+    if is_asked(note, tags) {
+        add_next(view, line, out, note, tags, some)
+    } else {
+        Ok(())
     }
-    add_comma(line, out, some)?;
-    add_note(view, line, out, note, tags)
 }
 
 // Adds the tags of a rule, or its meta, with commas between them.

@@ -14,12 +14,26 @@ use crate::line::{Failed, Line};
 use crate::note::{add_all_meta, add_tags};
 use crate::scene::Scene;
 use crate::string::put_strings;
-use crate::text::{namespace, text};
+use crate::text::{namespace, rule_name};
 use yr_base::Sink;
 use yr_image::RuleRow;
 
-// Adds the namespace of a rule and `:`, where it is asked for.
+// Adds the namespace of a rule and `:`.
 fn add_namespace<O: Sink>(
+    scene: &Scene<'_, '_>,
+    line: &mut Line,
+    out: &mut O,
+    rule: &RuleRow,
+) -> Result<(), Failed>
+    ensures later { O.faults out.old ≤ O.faults out.new }
+    ensures added { Adds (O.written out.old) (O.written out.new) (waiting line.old) (waiting line.new)
+        (namespace_of (image_of scene.now.view) rule.now ++ codes ":") result (O.faults out.old) (O.faults out.new) }
+{
+    add_all(line, out, &[namespace(&scene.view, rule), b":"])
+}
+
+// Adds the namespace of a rule, where it is asked for.
+fn add_asked_namespace<O: Sink>(
     scene: &Scene<'_, '_>,
     line: &mut Line,
     out: &mut O,
@@ -30,11 +44,7 @@ fn add_namespace<O: Sink>(
         (on_request scene.now.options.spaces (namespace_of (image_of scene.now.view) rule.now ++ codes ":"))
         result (O.faults out.old) (O.faults out.new) }
 {
-    if !scene.options.spaces {
-        return Ok(());
-    }
-    line.add(out, namespace(&scene.view, rule))?;
-    line.add(out, b":")
+    if scene.options.spaces { add_namespace(scene, line, out, rule) } else { Ok(()) }
 }
 
 // Adds the line of a rule.
@@ -51,8 +61,8 @@ fn add_rule_line<O: Sink>(
         result (O.faults out.old) (O.faults out.new) }
 {
     let view = &scene.view;
-    add_namespace(scene, line, out, rule)?;
-    line.add(out, text(view, u64::from(rule.name_place), u32::from(rule.name_length)))?;
+    add_asked_namespace(scene, line, out, rule)?;
+    line.add(out, rule_name(view, rule))?;
     add_tags(view, line, out, rule, scene.options.tags)?;
     add_all_meta(view, line, out, rule, scene.options.meta)?;
     add_all(line, out, &[b" ", scene.target, b"\n"])

@@ -15,7 +15,7 @@ use crate::gate::has_flag;
 use crate::line::{Failed, Line};
 use crate::matching::put_matches;
 use crate::scene::Scene;
-use crate::text::text;
+use crate::text::string_name;
 use yr_base::Sink;
 use yr_image::RuleRow;
 
@@ -40,8 +40,7 @@ fn put_string<O: Sink>(
     if has_flag(row.flags, 1) {
         return Ok(());
     }
-    let name = text(&scene.view, u64::from(row.name_place), row.name_length);
-    put_matches(line, out, name, scene.matches.list(k))
+    put_matches(line, out, string_name(&scene.view, &row), scene.matches.list(k))
 }
 
 /// Puts the lines of the matches of a rule's strings, in the order of the strings.
