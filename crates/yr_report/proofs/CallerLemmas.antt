@@ -7,6 +7,7 @@ use Rattle.yr_answer.specs.MatchList.{Match, RisesFrom}
 use Rattle.yr_image.specs.Reading.{image_in, rule_row, string_row}
 use Rattle.yr_image.specs.Sections.{HasSections, widths, rule_width, version_in, rows_of, size_of, place_of, bytes_of}
 use Rattle.yr_matches.specs.Found.{IsReadable}
+use Rattle.yr_report.specs.Made.{AreBelow}
 
 section_bytes : (bytes : List ℕ) (k : ℕ) → HasSections bytes → k < 14 → length (bytes_of bytes k) ≡ rows_of bytes k * slice_index (widths (version_in bytes)) k
 section_bytes bytes k has inside =
@@ -29,11 +30,6 @@ pub string_count : (bytes : List ℕ) → HasSections bytes → length (image_in
 string_count bytes has =
     let size = section_bytes bytes 3 has (omega arith) in
     omega (arith, size, length-rows_in 16 string_row (bytes_of bytes 3))
-
--- each match of a list begins below an offset
-abbrev pub AreBelow : ℕ → List Match → Type 0
-AreBelow most [] = Unit {0}
-AreBelow most (m ∷ ms) = (m.0 < most) × AreBelow most ms
 
 -- a list whose offsets rise, and one match more
 rises-more : (least most : ℕ) (list : List Match) (m : Match) → least ≤ most → most ≤ m.0 → RisesFrom least list → AreBelow most list → RisesFrom least (list ++ m ∷ [])

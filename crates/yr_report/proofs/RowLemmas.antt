@@ -124,7 +124,7 @@ pub has-ranges : (bytes : List ℕ) → IsWellformed bytes → (k : ℕ) (row : 
 has-ranges bytes w k row at =
     let image = image_in bytes in
     let good : (n : ℕ) (r : RuleRow) → slice_get image.rules n ≡ Some r → IsPlaced image n r = λ n r e.
-        placed image n r (passes-at image (is_good_rule image n) image.rules n r (and-first (row_passes image (is_good_rule image n) image.rules n) (nat_lt 0 n || is_good_without_rules image) (w (Index 0 n))) e) in
+    placed image n r (passes-at image (is_good_rule image n) image.rules n r (and-first (row_passes image (is_good_rule image n) image.rules n) (nat_lt 0 n || is_good_without_rules image) (w (Index 0 n))) e) in
     let lt = slice_get_within image.rules k row at in
     let last : k + suc (length image.rules - (k + 1)) ≡ length image.rules = omega (arith, lt) in
     let both = within image good (length image.rules - (k + 1)) k row last at in

@@ -12,6 +12,8 @@ mod quoting;
 mod rule;
 mod scene;
 mod string;
+#[cfg(test)]
+mod tests;
 mod text;
 mod writing;
 

@@ -189,7 +189,11 @@ pub fn add_tags<O: Sink>(
     ensures later { O.faults out.old ≤ O.faults out.new }
     ensures added { Adds (O.written out.old) (O.written out.new) (waiting line.old) (waiting line.new) (on_request asked (bracketed (λ tag. tag) (listed_rule (image_of view.now) rule.now).tags)) result (O.faults out.old) (O.faults out.new) }
 {
-    if asked { add_notes(view, line, out, rule, true) } else { Ok(()) }
+    if asked {
+        add_notes(view, line, out, rule, true)
+    } else {
+        Ok(())
+    }
 }
 
 /// Adds the meta of a rule in brackets, where it is asked for.
@@ -205,5 +209,9 @@ pub fn add_all_meta<O: Sink>(
     ensures later { O.faults out.old ≤ O.faults out.new }
     ensures added { Adds (O.written out.old) (O.written out.new) (waiting line.old) (waiting line.new) (on_request asked (bracketed entry_text (listed_rule (image_of view.now) rule.now).meta)) result (O.faults out.old) (O.faults out.new) }
 {
-    if asked { add_notes(view, line, out, rule, false) } else { Ok(()) }
+    if asked {
+        add_notes(view, line, out, rule, false)
+    } else {
+        Ok(())
+    }
 }

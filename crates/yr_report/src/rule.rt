@@ -44,7 +44,11 @@ fn add_asked_namespace<O: Sink>(
         (on_request scene.now.options.spaces (namespace_of (image_of scene.now.view) rule.now ++ codes ":"))
         result (O.faults out.old) (O.faults out.new) }
 {
-    if scene.options.spaces { add_namespace(scene, line, out, rule) } else { Ok(()) }
+    if scene.options.spaces {
+        add_namespace(scene, line, out, rule)
+    } else {
+        Ok(())
+    }
 }
 
 // Adds the line of a rule.
@@ -102,7 +106,11 @@ fn put_asked_strings<O: Sink>(
         result (O.faults out.old) (O.faults out.new) }
     ensures empty { IfOk result (λ u. waiting line.new ≡ []) }
 {
-    if scene.options.strings { put_strings(scene, line, out, rule) } else { Ok(()) }
+    if scene.options.strings {
+        put_strings(scene, line, out, rule)
+    } else {
+        Ok(())
+    }
 }
 
 /// Puts the lines of a rule and of its strings, where nothing waits.

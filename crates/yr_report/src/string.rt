@@ -40,7 +40,12 @@ fn put_string<O: Sink>(
     if has_flag(row.flags, 1) {
         return Ok(());
     }
-    put_matches(line, out, string_name(&scene.view, &row), scene.matches.list(k))
+    put_matches(
+        line,
+        out,
+        string_name(&scene.view, &row),
+        scene.matches.list(k),
+    )
 }
 
 /// Puts the lines of the matches of a rule's strings, in the order of the strings.

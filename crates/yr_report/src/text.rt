@@ -27,7 +27,11 @@ pub fn text<'a>(view: &ImageView<'a>, place: u64, length: u32) -> &'a [u8]
 pub fn rule_name<'a>(view: &ImageView<'a>, rule: &RuleRow) -> &'a [u8]
     ensures { result.now ≡ rule_name (image_of view.now) rule.now }
 {
-    text(view, u64::from(rule.name_place), u32::from(rule.name_length))
+    text(
+        view,
+        u64::from(rule.name_place),
+        u32::from(rule.name_length),
+    )
 }
 
 /// The name of a note.

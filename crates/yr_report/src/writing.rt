@@ -63,7 +63,11 @@ fn put_reported<O: Sink>(
         result (O.faults out.old) (O.faults out.new) }
     ensures empty { IfOk result (λ u. waiting line.new ≡ []) }
 {
-    if reported { put_rule(scene, line, out, rule) } else { Ok(()) }
+    if reported {
+        put_rule(scene, line, out, rule)
+    } else {
+        Ok(())
+    }
 }
 
 // Puts the lines of the reported rules.

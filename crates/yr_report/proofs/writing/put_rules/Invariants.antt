@@ -18,6 +18,6 @@ invariant-loop-k g l = record {
   goes : Goes (g.O.Sink.written l.fn.out) (g.O.Sink.written l.out) (waiting l.fn.line) (waiting l.line)
       (report_from l.scene (rule_text (lists_of l.scene) l.scene.options l.scene.target.now) l.k)
       (flat_map (rule_text (lists_of l.scene) l.scene.options l.scene.target.now)
-          (reported_of l.scene.options.negate (listed_rules (image_of l.scene.view)) (truths_shown l.scene.results.now)));
+      (reported_of l.scene.options.negate (listed_rules (image_of l.scene.view)) (truths_shown l.scene.results.now)));
   empty : waiting l.line ≡ [];
 }
