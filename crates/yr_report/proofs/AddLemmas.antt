@@ -1,6 +1,6 @@
 -- Pieces added one after another.
 use Rattle.yr_base.specs.Causes.{HasRisen}
-use Rattle.std.proofs.Common.{◌≡◌, ℕ, Bool, true, false, ◌≤◌, arith, List, [], ◌∷◌, ◌++◌, Option, Result, Ok, Err, refl, sym, ap, subst, ◌∙◌, append_assoc, append-nil}
+use Rattle.std.proofs.Common.{◌≡◌, ℕ, Bool, true, false, ◌≤◌, arith, List, [], ◌++◌, Option, Result, Ok, Err, refl, sym, ap, subst, ◌∙◌, append_assoc, append-nil}
 use Rattle.std.specs.Result.{IsErr}
 use Rattle.yr_base.specs.Told.{told_more, AddsPrefix, told_more-nil, told_more-more}
 use Rattle.yr_answer.specs.Report.{on_request}

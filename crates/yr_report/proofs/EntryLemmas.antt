@@ -1,5 +1,5 @@
 -- Entries with commas between them, and the brackets around them.
-use Rattle.std.proofs.Common.{◌≡◌, ℕ, Bool, true, false, cond, List, [], ◌∷◌, ◌++◌, map, filter, flat_map, refl, sym, ap, ◌∙◌}
+use Rattle.std.proofs.Common.{◌≡◌, ℕ, Bool, true, false, cond, List, [], ◌∷◌, ◌++◌, map, filter, flat_map, refl, sym, ap}
 use Rattle.std.specs.Prelude.{codes}
 use Rattle.std.specs.List.{join_by}
 use Rattle.std.proofs.lemmas.List.Folds.{flat_map-map}
@@ -9,7 +9,7 @@ use Rattle.yr_image.specs.declared.rows.NoteRow.{NoteRow}
 use Rattle.yr_image.specs.declared.rows.RuleRow.{RuleRow}
 use Rattle.yr_machine.specs.Names.{note_name}
 use Rattle.yr_machine.specs.Listing.{is_tag, listed_meta, listed_rule, notes_of}
-use Rattle.yr_report.specs.Entries.{is_asked, note_text, entry, entries}
+use Rattle.yr_report.specs.Entries.{is_asked, note_text, entries}
 
 join-map : {A B : Type 0} (text : B → List ℕ) (f : A → B) (sep : List ℕ) (xs : List A) → join_by text sep (map f xs) ≡ join_by (λ x. text (f x)) sep xs
 join-map text f sep [] = refl

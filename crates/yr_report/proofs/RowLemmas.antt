@@ -1,5 +1,5 @@
 -- Rows of a wellformed image are there.
-use Rattle.std.proofs.Common.{◌≡◌, ℕ, zero, suc, ◌+◌, ◌-◌, ◌/◌, ◌<◌, ◌≤◌, ◌^◌, ◌==◌, ◌&&◌, ◌||◌, Bool, true, false, nat_le, nat_lt, List, [], ◌∷◌, length, take, drop, Option, Some, None, refl, sym, ap, ◌∙◌, subst, arith}
+use Rattle.std.proofs.Common.{◌≡◌, ℕ, zero, suc, ◌+◌, ◌-◌, ◌<◌, ◌≤◌, ◌^◌, ◌==◌, ◌&&◌, ◌||◌, Bool, true, false, nat_le, nat_lt, List, [], ◌∷◌, length, take, drop, Some, refl, sym, ap, ◌∙◌, arith}
 use Rattle.std.specs.Prelude.{slice_get}
 use Rattle.std.specs.Option.{option_map_or}
 use Rattle.std.proofs.Math.Nat.{div-le_self}
@@ -10,7 +10,7 @@ use Rattle.yr_rows.proofs.RowLemmas.{length-rows_in}
 use Rattle.yr_image.specs.declared.fault.ImageFault.TheVariants.{Index}
 use Rattle.yr_image.specs.declared.rows.RuleRow.{RuleRow}
 use Rattle.yr_image.specs.Image.{Image, in_pool}
-use Rattle.yr_image.specs.Reading.{image_in, zeros_in, rule_row, note_row, string_row}
+use Rattle.yr_image.specs.Reading.{image_in, rule_row, note_row, string_row}
 use Rattle.yr_image.specs.Sections.{rule_width, version_in, size_of, place_of, bytes_of}
 use Rattle.yr_machine.specs.Rows.{end_before, notes_end, strings_end, code_end, ends_sections, is_good_rule, is_good_without_rules, row_passes}
 use Rattle.yr_machine.specs.Wellformed.{IsWellformed}

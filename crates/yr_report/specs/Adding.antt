@@ -1,5 +1,5 @@
 -- What is added to a line that waits to be put, and what was put meanwhile.
-use Rattle.std.specs.Prelude.{◌≡◌, ℕ, List, [], ◌++◌, take, Option, Result, Ok, Err}
+use Rattle.std.specs.Prelude.{◌≡◌, ℕ, List, ◌++◌, take, Option, Result, Ok, Err}
 use Rattle.yr_base.specs.Causes.{HasRisen}
 use Rattle.yr_base.specs.Told.{told_more, AddsPrefix}
 use Rattle.yr_report.specs.declared.line.Failed.{Failed}

@@ -1,5 +1,5 @@
 -- What a report is made of, and whether a namespace is shut.
-use Rattle.std.specs.Prelude.{◌≡◌, ℕ, ◌≤◌, ◌<◌, ◌^◌, Bool, List, length, zip}
+use Rattle.std.specs.Prelude.{◌≡◌, ◌≤◌, ◌<◌, ◌^◌, Bool, List, length, zip}
 use Rattle.std.specs.List.{list_any}
 use Rattle.yr_answer.specs.MatchList.{Match}
 use Rattle.yr_answer.specs.Listing.{ListedRule}

@@ -1,4 +1,4 @@
-use Rattle.std.proofs.Common.{◌+◌, List, ℕ, drop, get_or, sym, subst, refl, rules}
+use Rattle.std.proofs.Common.{◌+◌, List, ℕ, drop, sym, subst, refl, rules}
 use Rattle.std.specs.List.{flat_map}
 use Rattle.yr_base.proofs.Pieces.{flat_map-take, flat_map-split}
 use Rattle.yr_report.specs.Adding.{waiting, Added}

@@ -1,4 +1,4 @@
-use Rattle.std.proofs.Common.{◌≡◌, ◌+◌, ◌≤◌, ℕ, cond, refl, sym, ap, ◌∙◌, arith}
+use Rattle.std.proofs.Common.{◌≡◌, ◌+◌, cond, arith}
 use Rattle.yr_image.specs.Views.{shown_bytes}
 use Rattle.yr_report.proofs.RowLemmas.{few-rules}
 use Rattle.yr_report.proofs.JudgedLemmas.{count_from, count-first, count-next, count-none}

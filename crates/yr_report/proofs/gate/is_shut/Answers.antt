@@ -1,4 +1,4 @@
-use Rattle.std.proofs.Common.{◌≡◌, ◌||◌, ◌+◌, Bool, true, false, ℕ, refl, sym, ap, ◌∙◌, arith}
+use Rattle.std.proofs.Common.{◌||◌, ◌+◌, sym, ap, ◌∙◌, arith}
 use Rattle.yr_image.specs.Views.{shown_bytes}
 use Rattle.yr_report.proofs.RowLemmas.{few-rules}
 use Rattle.yr_report.proofs.JudgedLemmas.{shut_from, shut-first, shut-next, shut-none}

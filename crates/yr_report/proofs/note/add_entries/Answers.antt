@@ -1,4 +1,4 @@
-use Rattle.std.proofs.Common.{◌≡◌, ◌+◌, ◌≤◌, ◌++◌, ◌||◌, ℕ, List, [], false, refl, sym, ap, ◌∙◌, subst, arith, rules}
+use Rattle.std.proofs.Common.{◌≡◌, ◌+◌, ◌++◌, ◌||◌, ℕ, List, false, refl, sym, ap, ◌∙◌, subst, arith, rules}
 use Rattle.yr_image.specs.Views.{image_of}
 use Rattle.yr_machine.specs.Listing.{notes_of}
 use Rattle.yr_report.specs.Adding.{waiting}

@@ -1,4 +1,4 @@
-use Rattle.std.proofs.Common.{◌≡◌, ◌+◌, ◌≤◌, ℕ, List, [], flat_map, refl, sym, ap, ◌∙◌, subst, arith, rules}
+use Rattle.std.proofs.Common.{◌+◌, ℕ, List, flat_map, refl, sym, ap, subst, arith, rules}
 use Rattle.yr_answer.specs.Report.{string_lines}
 use Rattle.yr_image.specs.Views.{image_of}
 use Rattle.yr_machine.specs.Listing.{has_flag, listed_strings, listed_rule}

@@ -1,4 +1,4 @@
-use Rattle.std.proofs.Common.{◌≡◌, ◌+◌, ◌<◌, ◌≤◌, ◌++◌, ℕ, List, length, Bool, flat_map, refl, sym, ap, ◌∙◌, subst, arith, rules}
+use Rattle.std.proofs.Common.{◌+◌, ◌<◌, ◌++◌, ℕ, List, length, flat_map, sym, ap, ◌∙◌, subst, arith, rules}
 use Rattle.yr_answer.specs.Report.{on_request, rule_text}
 use Rattle.yr_answer.specs.Reported.{reported_of}
 use Rattle.yr_answer.specs.Truths.{truths_shown}
@@ -8,7 +8,7 @@ use Rattle.yr_report.specs.Adding.{waiting}
 use Rattle.yr_report.specs.Scenes.{lists_of}
 use Rattle.yr_report.proofs.AddLemmas.{Goes, goes-start, goes-on, goes-out, goes-breaks}
 use Rattle.yr_report.proofs.RowLemmas.{few-rules, has-ranges}
-use Rattle.yr_report.proofs.JudgedLemmas.{report_from, text_if, report-first, report-next, report-none}
+use Rattle.yr_report.proofs.JudgedLemmas.{report_from, report-first, report-next, report-none}
 use Rattle.yr_report.proofs.writing.put_rules.Goals as goal
 
 pub loop-k-init : goal.loop-k-init

@@ -1,7 +1,6 @@
-use Rattle.std.proofs.Common.{◌≡◌, ℕ, List, ap₂}
+use Rattle.std.proofs.Common.{ℕ, List, ap₂}
 use Rattle.yr_answer.specs.Truths.{truths_shown}
 use Rattle.yr_image.specs.Reading.{image_in}
-use Rattle.yr_image.specs.Views.{image_of}
 use Rattle.yr_machine.specs.Listing.{image_report}
 use Rattle.yr_report.specs.Adding.{waiting}
 use Rattle.yr_report.proofs.AddLemmas.{put-whole, put-part}

@@ -1,4 +1,3 @@
-use Rattle.std.proofs.Common.{rules}
 use Rattle.yr_report.specs.Adding.{waiting}
 use Rattle.yr_report.proofs.AddLemmas.{adds-after-put, prefix-front}
 use Rattle.yr_report.proofs.line.Line.add.Goals as goal

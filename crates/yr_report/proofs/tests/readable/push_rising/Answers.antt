@@ -1,4 +1,4 @@
-use Rattle.std.proofs.Common.{ℕ, ◌+◌, List, sym, subst, arith}
+use Rattle.std.proofs.Common.{◌+◌, List, sym, subst, arith}
 use Rattle.yr_answer.specs.MatchList.{Match}
 use Rattle.yr_matches.specs.Found.{IsReadable}
 use Rattle.yr_report.specs.Made.{AreBelow}

@@ -1,4 +1,4 @@
-use Rattle.std.proofs.Common.{◌≡◌, ℕ, List, length, sym, ap, ◌∙◌}
+use Rattle.std.proofs.Common.{◌≡◌, length, sym, ap, ◌∙◌}
 use Rattle.yr_image.specs.Reading.{image_in}
 use Rattle.yr_image.specs.Sections.{rows_of}
 use Rattle.yr_verifier.specs.Verified.{bytes_of, are_wellformed}
