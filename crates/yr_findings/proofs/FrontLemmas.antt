@@ -1,0 +1,64 @@
+-- A name begins with a front where one of its beginnings is the front.
+use Rattle.std.proofs.Common.{◌≡◌, ℕ, ◌<◌, ◌≤◌, ◌||◌, Bool, true, false, List, [], ◌∷◌, length, take, min, refl, sym, ap, ◌∙◌, arith, nat_lt}
+use Rattle.std.specs.List.{list_any}
+use Rattle.std.specs.Str.{bytes_eq}
+use Rattle.std.specs.Cmp.Lexicographic.{bytes_decides}
+use Rattle.std.proofs.lemmas.List.{length-take, take_min, take_all}
+use Rattle.yr_numbered.specs.Names.{Name, has, begins}
+use Rattle.yr_types.specs.Checks.{has_front}
+
+or-right : (a b : Bool) → b ≡ true → (a || b) ≡ true
+or-right true b e = refl
+or-right false b e = e
+
+-- ---- a beginning of the name is the front
+
+begins-taken : (f n : Name) (k : ℕ) → bytes_eq (take k n) f ≡ true → begins f n ≡ true
+begins-taken f n k e =
+    let same = (bytes_decides (take k n) f).0 e in
+    let size : length f ≡ min k (length n) = ap length (sym same) ∙ length-take k n in
+    let taken : take (length f) n ≡ f = ap (λ i. take i n) size ∙ take_min k n ∙ same in
+    (bytes_decides f (take (length f) n)).1 (sym taken)
+
+unfolding has_front
+
+pub front_there : (fronts : List Name) (n : Name) (k : ℕ) → has (take k n) fronts ≡ true → has_front fronts n ≡ true
+front_there [] n k e = absurd cc
+front_there (f ∷ fronts) n k e = by (bytes_eq (take k n) f) refl e
+  where
+    by : (b : Bool) → bytes_eq (take k n) f ≡ b → (b || has (take k n) fronts) ≡ true → (begins f n || has_front fronts n) ≡ true
+    by true is h = ap (λ b. b || has_front fronts n) (begins-taken f n k is)
+    by false is h = or-right (begins f n) (has_front fronts n) (front_there fronts n k h)
+
+-- ---- no beginning of the name is the front
+
+or-false-left : (a b : Bool) → (a || b) ≡ false → a ≡ false
+or-false-left true b e = absurd cc
+or-false-left false b e = refl
+
+or-false-right : (a b : Bool) → (a || b) ≡ false → b ≡ false
+or-false-right true b e = absurd cc
+or-false-right false b e = e
+
+not-begun : (f n : Name) → ((k : ℕ) → k < length n → bytes_eq (take k n) f ≡ false) → bytes_eq n f ≡ false → begins f n ≡ false
+not-begun f n shorter whole = by (begins f n) refl
+  where
+    by : (b : Bool) → begins f n ≡ b → b ≡ false
+    by false e = refl
+    by true e = within (nat_lt (length f) (length n)) refl
+      where
+        same : f ≡ take (length f) n
+        same = (bytes_decides f (take (length f) n)).0 e
+
+        within : (b : Bool) → nat_lt (length f) (length n) ≡ b → true ≡ false
+        within true h = sym ((bytes_decides (take (length f) n) f).1 (sym same)) ∙ shorter (length f) (omega arith)
+        within false h = sym ((bytes_decides n f).1 (sym (take_all (length f) n (omega arith)) ∙ sym same)) ∙ whole
+
+unfolding has_front
+
+pub no_front : (fronts : List Name) (n : Name) → ((k : ℕ) → k < length n → has (take k n) fronts ≡ false) → has n fronts ≡ false → has_front fronts n ≡ false
+no_front [] n shorter whole = refl
+no_front (f ∷ fronts) n shorter whole =
+    let first = not-begun f n (λ k h. or-false-left (bytes_eq (take k n) f) (has (take k n) fronts) (shorter k h)) (or-false-left (bytes_eq n f) (has n fronts) whole) in
+    let others = no_front fronts n (λ k h. or-false-right (bytes_eq (take k n) f) (has (take k n) fronts) (shorter k h)) (or-false-right (bytes_eq n f) (has n fronts) whole) in
+    ap (λ b. b || has_front fronts n) first ∙ others

@@ -1,0 +1,4 @@
+pub mod ModifierLemmas
+pub mod FrontLemmas
+pub mod UnusedLemmas
+pub mod MeansLemmas

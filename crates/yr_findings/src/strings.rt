@@ -1,0 +1,164 @@
+//! The strings of a rule: what is found on them, and the checked strings.
+
+ghost use Rattle.std.specs.Prelude.{◌≡◌, ◌+◌, ◌-◌, ◌^◌, IfOk, map, min};
+ghost use Rattle.std.specs.List.{list_any};
+ghost use Rattle.std.specs.Option.{option_map, option_or};
+ghost use Rattle.yr_numbered.specs.Names.{first};
+ghost use Rattle.yr_nodes.specs.Fixed.{the_readers};
+ghost use Rattle.yr_nodes.specs.Readers.{string_variants};
+ghost use Rattle.yr_pattern.specs.Variants.{variant_of, variant_size};
+ghost use Rattle.yr_rules.specs.Rules.{string_of as checked_of};
+ghost use Rattle.yr_rules.specs.Weight.{string_weight as weight_of_string, total};
+ghost use Rattle.yr_syntax.specs.Declaration.{string_of};
+ghost use Rattle.yr_syntax.specs.Forms.{Each};
+ghost use Rattle.yr_types.specs.Checked.{checked_string};
+ghost use Rattle.yr_findings.specs.Findings.{finding_of, IsSoundString};
+ghost use Rattle.yr_types.specs.Patterns as spec;
+
+use crate::finding::{Finding, found, string_name};
+use crate::read_string::{read_string, string_modifiers};
+use std::alloc::Global;
+use yr_base::NoMemory;
+use yr_kinds::string_weight;
+use yr_pattern::Variant;
+use yr_rules::CheckedString;
+use yr_syntax::StringDecl;
+use yr_types::Code;
+
+/// A string, and what is found on its pattern.
+#[derive(Drop)]
+pub struct ReadString<'a> {
+    pub bad_hex: Option<Finding<'a>>,
+    pub bad_regex: Option<Finding<'a>>,
+    pub large: Option<Finding<'a>>,
+    pub string: CheckedString,
+}
+
+/// The first findings on the patterns of strings, and what the strings weigh.
+#[derive(Clone, Copy)]
+pub struct StringFindings<'a> {
+    pub bad_hex: Option<Finding<'a>>,
+    pub bad_regex: Option<Finding<'a>>,
+    pub large: Option<Finding<'a>>,
+    pub weight: u64,
+}
+
+/// Whether one of the variants is too large.
+fn some_large(variants: &[Variant]) -> bool
+    ensures { result ≡ list_any (λ v. spec.is_large (variant_size v)) (map variant_of variants.now) }
+{
+    for variant in variants {
+        if variant.size() > 65535 {
+            return true;
+        }
+    }
+    false
+}
+
+fn large_string<'a>(name: &'a [u8], variants: &[Variant]) -> Option<Finding<'a>>
+    ensures { (readers : _) (s : _) → s.name ≡ name.now → string_variants readers s ≡ map variant_of variants.now
+        → option_map finding_of result ≡ spec.large_string readers s }
+{
+    if some_large(variants) {
+        Some(found(Code::PatternTooLarge, string_name(name)))
+    } else {
+        None
+    }
+}
+
+/// A string of a rule as it is read.
+fn read_checked<'a>(
+    alloc: Global,
+    string: &'a StringDecl,
+    rule: u32,
+) -> Result<ReadString<'a>, NoMemory>
+    requires { IsSoundString (string_of string.now) }
+    ensures bad_hex { IfOk result (λ r. option_map finding_of r.bad_hex ≡ spec.bad_hex the_readers (string_of string.now)) }
+    ensures bad_regex { IfOk result (λ r. option_map finding_of r.bad_regex ≡ spec.bad_regex the_readers (string_of string.now)) }
+    ensures large { IfOk result (λ r. option_map finding_of r.large ≡ spec.large_string the_readers (string_of string.now)) }
+    ensures string { IfOk result (λ r. checked_of r.string ≡ checked_string the_readers rule (string_of string.now)) }
+{
+    let Some(modifiers) = string_modifiers(string) else {
+        unreachable!();
+    };
+    let read = read_string(alloc, string, &modifiers)?;
+    let name = Vec::from_slice(alloc, &string.name)?;
+    Ok(ReadString {
+        bad_hex: read.bad_hex,
+        bad_regex: read.bad_regex,
+        large: large_string(&string.name, &read.variants),
+        string: CheckedString {
+            name,
+            rule,
+            hidden: modifiers.hidden,
+            greedy: read.greedy,
+            variants: read.variants,
+        },
+    })
+}
+
+fn no_findings<'a>() -> StringFindings<'a>
+    ensures bad_hex { option_map finding_of result.bad_hex ≡ None }
+    ensures bad_regex { option_map finding_of result.bad_regex ≡ None }
+    ensures large { option_map finding_of result.large ≡ None }
+    ensures weight { result.weight ≡ 0 }
+{
+    StringFindings {
+        bad_hex: None,
+        bad_regex: None,
+        large: None,
+        weight: 0,
+    }
+}
+
+/// What is found on one string before what is found on those behind it.
+fn before<'a>(read: &ReadString<'a>, later: StringFindings<'a>) -> StringFindings<'a>
+    ensures bad_hex { option_map finding_of result.bad_hex ≡ option_or (option_map finding_of read.now.bad_hex) (option_map finding_of later.entry.bad_hex) }
+    ensures bad_regex { option_map finding_of result.bad_regex ≡ option_or (option_map finding_of read.now.bad_regex) (option_map finding_of later.entry.bad_regex) }
+    ensures large { option_map finding_of result.large ≡ option_or (option_map finding_of read.now.large) (option_map finding_of later.entry.large) }
+    ensures weight { result.weight ≡ min (weight_of_string (checked_of read.now.string) + later.entry.weight) (2 ^ 64 - 1) }
+{
+    StringFindings {
+        bad_hex: read.bad_hex.or(later.bad_hex),
+        bad_regex: read.bad_regex.or(later.bad_regex),
+        large: read.large.or(later.large),
+        weight: string_weight(&read.string).saturating_add(later.weight),
+    }
+}
+
+/// The first findings on the patterns of strings, and what the strings weigh. No string is kept.
+pub fn string_findings<'a>(
+    alloc: Global,
+    strings: &'a [StringDecl],
+    rule: u32,
+) -> Result<StringFindings<'a>, NoMemory>
+    requires { Each IsSoundString (map string_of strings.now) }
+    ensures bad_hex { IfOk result (λ f. option_map finding_of f.bad_hex ≡ first (spec.bad_hex the_readers) (map string_of strings.now)) }
+    ensures bad_regex { IfOk result (λ f. option_map finding_of f.bad_regex ≡ first (spec.bad_regex the_readers) (map string_of strings.now)) }
+    ensures large { IfOk result (λ f. option_map finding_of f.large ≡ first (spec.large_string the_readers) (map string_of strings.now)) }
+    ensures weight { IfOk result (λ f. f.weight ≡ min (total weight_of_string (map (checked_string the_readers rule) (map string_of strings.now))) (2 ^ 64 - 1)) }
+{
+    let mut all = no_findings();
+    for i in (0..strings.len()).rev() {
+        let read = read_checked(alloc, &strings[i], rule)?;
+        all = before(&read, all);
+    }
+    Ok(all)
+}
+
+/// The checked strings of a rule.
+pub fn checked_strings(
+    alloc: Global,
+    strings: &[StringDecl],
+    rule: u32,
+) -> Result<Vec<CheckedString>, NoMemory>
+    requires { Each IsSoundString (map string_of strings.now) }
+    ensures { IfOk result (λ all. map checked_of all.items ≡ map (checked_string the_readers rule) (map string_of strings.now)) }
+{
+    let mut all = Vec::new(alloc);
+    for string in strings {
+        let read = read_checked(alloc, string, rule)?;
+        all.push(read.string)?;
+    }
+    Ok(all)
+}
