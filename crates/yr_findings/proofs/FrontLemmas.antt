@@ -3,6 +3,7 @@ use Rattle.std.proofs.Common.{◌≡◌, ℕ, ◌<◌, ◌≤◌, ◌||◌, Bool
 use Rattle.std.specs.List.{list_any}
 use Rattle.std.specs.Str.{bytes_eq}
 use Rattle.std.specs.Cmp.Lexicographic.{bytes_decides}
+use Rattle.std.proofs.lemmas.Bool.{ltb-true, ltb-false}
 use Rattle.std.proofs.lemmas.List.{length-take, take_min, take_all}
 use Rattle.yr_numbered.specs.Names.{Name, has, begins}
 use Rattle.yr_types.specs.Checks.{has_front}
@@ -20,15 +21,14 @@ begins-taken f n k e =
     let taken : take (length f) n ≡ f = ap (λ i. take i n) size ∙ take_min k n ∙ same in
     (bytes_decides f (take (length f) n)).1 (sym taken)
 
-unfolding has_front
-
 pub front_there : (fronts : List Name) (n : Name) (k : ℕ) → has (take k n) fronts ≡ true → has_front fronts n ≡ true
+unfolding has_front
 front_there [] n k e = absurd cc
-front_there (f ∷ fronts) n k e = by (bytes_eq (take k n) f) refl e
+front_there (f ∷ fronts) n k e = by (bytes_eq (take k n) f) refl (front_there fronts n k) e
   where
-    by : (b : Bool) → bytes_eq (take k n) f ≡ b → (b || has (take k n) fronts) ≡ true → (begins f n || has_front fronts n) ≡ true
-    by true is h = ap (λ b. b || has_front fronts n) (begins-taken f n k is)
-    by false is h = or-right (begins f n) (has_front fronts n) (front_there fronts n k h)
+    by : (b : Bool) → bytes_eq (take k n) f ≡ b → (has (take k n) fronts ≡ true → has_front fronts n ≡ true) → (b || has (take k n) fronts) ≡ true → (begins f n || has_front fronts n) ≡ true
+    by true is later h = ap (λ b. b || has_front fronts n) (begins-taken f n k is)
+    by false is later h = or-right (begins f n) (has_front fronts n) (later h)
 
 -- ---- no beginning of the name is the front
 
@@ -51,14 +51,20 @@ not-begun f n shorter whole = by (begins f n) refl
         same = (bytes_decides f (take (length f) n)).0 e
 
         within : (b : Bool) → nat_lt (length f) (length n) ≡ b → true ≡ false
-        within true h = sym ((bytes_decides (take (length f) n) f).1 (sym same)) ∙ shorter (length f) (omega arith)
-        within false h = sym ((bytes_decides n f).1 (sym (take_all (length f) n (omega arith)) ∙ sym same)) ∙ whole
-
-unfolding has_front
+        within true h = sym ((bytes_decides (take (length f) n) f).1 (sym same)) ∙ shorter (length f) (ltb-true (length f) (length n) h)
+        within false h = sym ((bytes_decides n f).1 (sym (take_all (length f) n (ltb-false (length f) (length n) h)) ∙ sym same)) ∙ whole
 
 pub no_front : (fronts : List Name) (n : Name) → ((k : ℕ) → k < length n → has (take k n) fronts ≡ false) → has n fronts ≡ false → has_front fronts n ≡ false
+unfolding has_front
 no_front [] n shorter whole = refl
 no_front (f ∷ fronts) n shorter whole =
     let first = not-begun f n (λ k h. or-false-left (bytes_eq (take k n) f) (has (take k n) fronts) (shorter k h)) (or-false-left (bytes_eq n f) (has n fronts) whole) in
     let others = no_front fronts n (λ k h. or-false-right (bytes_eq (take k n) f) (has (take k n) fronts) (shorter k h)) (or-false-right (bytes_eq n f) (has n fronts) whole) in
     ap (λ b. b || has_front fronts n) first ∙ others
+
+pub last_front : (fronts : List Name) (n : Name) (size : ℕ) (r : Bool) → ((k : ℕ) → k < size → has (take k n) fronts ≡ false) → length n ≤ size → r ≡ has n fronts → r ≡ has_front fronts n
+last_front fronts n size r shorter whole e = by (has n fronts) refl
+  where
+    by : (b : Bool) → has n fronts ≡ b → r ≡ has_front fronts n
+    by true h = e ∙ h ∙ sym (front_there fronts n (length n) (ap (λ m. has m fronts) (take_all (length n) n (omega arith)) ∙ h))
+    by false h = e ∙ h ∙ sym (no_front fronts n (λ k below. shorter k (omega arith)) h)

@@ -2,3 +2,5 @@ pub mod ModifierLemmas
 pub mod FrontLemmas
 pub mod UnusedLemmas
 pub mod MeansLemmas
+pub mod TextSizeLemmas
+pub mod StringLemmas

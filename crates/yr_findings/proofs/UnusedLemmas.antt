@@ -39,9 +39,8 @@ whole s n us h =
     let e = list_any is_everything us in let w = has s (flat_map whole_name us) in let f = has_front (flat_map front_name us) s in
     ap (λ b. bytes_eq n s || b) h ∙ or-whole (bytes_eq n s) e w f ∙ ap (λ b. e || ((b || w) || f)) (turned n s)
 
-unfolding has_front
-
 used-alike : (s : Name) (us : List Use) → list_any (uses_string s) us ≡ is_used (list_any is_everything us) (flat_map whole_name us) (flat_map front_name us) s
+unfolding has_front
 used-alike s [] = refl
 used-alike s (use'.String sign n ∷ us) = whole s n us (used-alike s us)
 used-alike s (use'.Nameless sign ∷ us) = used-alike s us
@@ -55,9 +54,8 @@ used-alike s (use'.Expression r ∷ us) = used-alike s us
 used-alike s (use'.Loop round ∷ us) = used-alike s us
 used-alike s (use'.Listed items ∷ us) = used-alike s us
 
-unfolding unused_string
-
 alike : (us : List Use) (s : Name) → without_use (list_any is_everything us) (flat_map whole_name us) (flat_map front_name us) s ≡ unused_string us s
+unfolding without_use unused_string
 alike us s = ap (λ b. name_if (not (begins (codes "_") s || b)) (with_sign s)) (sym (used-alike s us))
 
 pub first_alike : (us : List Use) (strings : List Name)

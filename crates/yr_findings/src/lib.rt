@@ -9,6 +9,7 @@ mod names_twice;
 mod read_string;
 mod strings;
 mod tables;
+mod text_sizes;
 mod texts;
 mod unused;
 mod used;

@@ -16,7 +16,7 @@ use yr_syntax::StringDecl;
 use yr_types::Code;
 
 /// Whether the name begins with one of the fronts: whether one of its beginnings is a front.
-#[tactic(auto, using(crate::proofs::FrontLemmas::front_there, crate::proofs::FrontLemmas::no_front))]
+#[tactic(auto, using(crate::proofs::FrontLemmas::front_there))]
 pub fn has_front(fronts: &Numbered<'_>, name: &[u8]) -> bool
     ensures { result ≡ spec.has_front fronts.now name.now }
 {

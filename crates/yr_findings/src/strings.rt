@@ -1,28 +1,32 @@
 //! The strings of a rule: what is found on them, and the checked strings.
 
-ghost use Rattle.std.specs.Prelude.{◌≡◌, ◌+◌, ◌-◌, ◌^◌, IfOk, map, min};
+ghost use Rattle.std.specs.Prelude.{◌≡◌, ◌+◌, ◌-◌, ◌^◌, IfOk, None, length, map, min, nat_lt};
 ghost use Rattle.std.specs.List.{list_any};
 ghost use Rattle.std.specs.Option.{option_map, option_or};
-ghost use Rattle.yr_numbered.specs.Names.{first};
+ghost use Rattle.yr_numbered.specs.Names.{first, with_sign};
 ghost use Rattle.yr_nodes.specs.Fixed.{the_readers};
-ghost use Rattle.yr_nodes.specs.Readers.{string_variants};
+ghost use Rattle.yr_nodes.specs.Readers.{modifiers_of};
 ghost use Rattle.yr_pattern.specs.Variants.{variant_of, variant_size};
 ghost use Rattle.yr_rules.specs.Rules.{string_of as checked_of};
 ghost use Rattle.yr_rules.specs.Weight.{string_weight as weight_of_string, total};
-ghost use Rattle.yr_syntax.specs.Declaration.{string_of};
+ghost use Rattle.yr_syntax.specs.Declaration.{Text, body_of, string_of};
 ghost use Rattle.yr_syntax.specs.Forms.{Each};
 ghost use Rattle.yr_types.specs.Checked.{checked_string};
+ghost use Rattle.yr_types.specs.Given.{name_if, naming};
 ghost use Rattle.yr_findings.specs.Findings.{finding_of, IsSoundString};
+ghost use Rattle.yr_findings.specs.TextSizes as sizes;
 ghost use Rattle.yr_types.specs.Patterns as spec;
 
 use crate::finding::{Finding, found, string_name};
 use crate::read_string::{read_string, string_modifiers};
+use crate::text_sizes::text_tally;
 use std::alloc::Global;
 use yr_base::NoMemory;
 use yr_kinds::string_weight;
 use yr_pattern::Variant;
 use yr_rules::CheckedString;
-use yr_syntax::StringDecl;
+use yr_syntax::{StringBody, StringDecl};
+use yr_text::Modifiers;
 use yr_types::Code;
 
 /// A string, and what is found on its pattern.
@@ -55,15 +59,32 @@ fn some_large(variants: &[Variant]) -> bool
     false
 }
 
-fn large_string<'a>(name: &'a [u8], variants: &[Variant]) -> Option<Finding<'a>>
-    ensures { (readers : _) (s : _) → s.name ≡ name.now → string_variants readers s ≡ map variant_of variants.now
-        → option_map finding_of result ≡ spec.large_string readers s }
+/// The finding of a string that is too large, where the test holds.
+fn large_where(test: bool, name: &[u8]) -> Option<Finding<'_>>
+    ensures { option_map finding_of result ≡ naming Code.PatternTooLarge (name_if test (with_sign name.now)) }
 {
-    if some_large(variants) {
+    if test {
         Some(found(Code::PatternTooLarge, string_name(name)))
     } else {
         None
     }
+}
+
+fn large_string<'a>(name: &'a [u8], variants: &[Variant]) -> Option<Finding<'a>>
+    ensures { option_map finding_of result ≡ naming Code.PatternTooLarge (name_if (list_any (λ v. spec.is_large (variant_size v)) (map variant_of variants.now)) (with_sign name.now)) }
+{
+    large_where(some_large(variants), name)
+}
+
+/// What the modifiers of a string say that has passed the check on them.
+fn sound_modifiers(string: &StringDecl) -> Modifiers
+    requires { IsSoundString (string_of string.now) }
+    ensures { result ≡ modifiers_of (string_of string.now) }
+{
+    let Some(modifiers) = string_modifiers(string) else {
+        unreachable!();
+    };
+    modifiers
 }
 
 /// A string of a rule as it is read.
@@ -78,9 +99,7 @@ fn read_checked<'a>(
     ensures large { IfOk result (λ r. option_map finding_of r.large ≡ spec.large_string the_readers (string_of string.now)) }
     ensures string { IfOk result (λ r. checked_of r.string ≡ checked_string the_readers rule (string_of string.now)) }
 {
-    let Some(modifiers) = string_modifiers(string) else {
-        unreachable!();
-    };
+    let modifiers = sound_modifiers(string);
     let read = read_string(alloc, string, &modifiers)?;
     let name = Vec::from_slice(alloc, &string.name)?;
     Ok(ReadString {
@@ -111,18 +130,101 @@ fn no_findings<'a>() -> StringFindings<'a>
     }
 }
 
-/// What is found on one string before what is found on those behind it.
-fn before<'a>(read: &ReadString<'a>, later: StringFindings<'a>) -> StringFindings<'a>
-    ensures bad_hex { option_map finding_of result.bad_hex ≡ option_or (option_map finding_of read.now.bad_hex) (option_map finding_of later.entry.bad_hex) }
-    ensures bad_regex { option_map finding_of result.bad_regex ≡ option_or (option_map finding_of read.now.bad_regex) (option_map finding_of later.entry.bad_regex) }
-    ensures large { option_map finding_of result.large ≡ option_or (option_map finding_of read.now.large) (option_map finding_of later.entry.large) }
-    ensures weight { result.weight ≡ min (weight_of_string (checked_of read.now.string) + later.entry.weight) (2 ^ 64 - 1) }
+fn capped(weight: u128) -> u64
+    ensures { result ≡ min weight (2 ^ 64 - 1) }
+{
+    if weight > 18_446_744_073_709_551_615 {
+        18_446_744_073_709_551_615
+    } else {
+        weight as u64
+    }
+}
+
+/// What is found on a text of so many bytes, and what it weighs. None of its variants is made.
+fn sized_text<'a>(name: &'a [u8], size: usize, modifiers: &Modifiers) -> StringFindings<'a>
+    ensures bad_hex { option_map finding_of result.bad_hex ≡ None }
+    ensures bad_regex { option_map finding_of result.bad_regex ≡ None }
+    ensures large { option_map finding_of result.large
+        ≡ naming Code.PatternTooLarge (name_if (nat_lt 0 (sizes.text_sum sizes.large_count modifiers.now size)) (with_sign name.now)) }
+    ensures weight { result.weight ≡ min (32 + length name.now + sizes.text_sum sizes.literal_weight modifiers.now size) (2 ^ 64 - 1) }
+{
+    let tally = text_tally(modifiers, size);
+    let named = 32 + name.len() as u128;
+    StringFindings {
+        bad_hex: None,
+        bad_regex: None,
+        large: large_where(tally.large, name),
+        weight: capped(tally.weight.saturating_add(named)),
+    }
+}
+
+/// What is found on a text string, and what it weighs.
+#[tactic(auto, using(crate::proofs::StringLemmas::text_hex, crate::proofs::StringLemmas::text_regex, crate::proofs::StringLemmas::text_large, crate::proofs::StringLemmas::text_weight))]
+fn text_findings<'a>(
+    string: &'a StringDecl,
+    text: &[u8],
+    modifiers: &Modifiers,
+) -> StringFindings<'a>
+    requires text { body_of string.now.body ≡ Text text.now }
+    requires modifiers { modifiers.now ≡ modifiers_of (string_of string.now) }
+    ensures bad_hex { option_map finding_of result.bad_hex ≡ spec.bad_hex the_readers (string_of string.now) }
+    ensures bad_regex { option_map finding_of result.bad_regex ≡ spec.bad_regex the_readers (string_of string.now) }
+    ensures large { option_map finding_of result.large ≡ spec.large_string the_readers (string_of string.now) }
+    ensures weight { (rule : _) → result.weight ≡ min (weight_of_string (checked_string the_readers rule (string_of string.now))) (2 ^ 64 - 1) }
+{
+    sized_text(&string.name, text.len(), modifiers)
+}
+
+/// What is found on a string, and what it weighs.
+fn found_on<'a>(read: &ReadString<'a>) -> StringFindings<'a>
+    ensures bad_hex { option_map finding_of result.bad_hex ≡ option_map finding_of read.now.bad_hex }
+    ensures bad_regex { option_map finding_of result.bad_regex ≡ option_map finding_of read.now.bad_regex }
+    ensures large { option_map finding_of result.large ≡ option_map finding_of read.now.large }
+    ensures weight { result.weight ≡ min (weight_of_string (checked_of read.now.string)) (2 ^ 64 - 1) }
 {
     StringFindings {
-        bad_hex: read.bad_hex.or(later.bad_hex),
-        bad_regex: read.bad_regex.or(later.bad_regex),
-        large: read.large.or(later.large),
-        weight: string_weight(&read.string).saturating_add(later.weight),
+        bad_hex: read.bad_hex,
+        bad_regex: read.bad_regex,
+        large: read.large,
+        weight: string_weight(&read.string),
+    }
+}
+
+fn one_string<'a>(
+    alloc: Global,
+    string: &'a StringDecl,
+    rule: u32,
+) -> Result<StringFindings<'a>, NoMemory>
+    requires { IsSoundString (string_of string.now) }
+    ensures bad_hex { IfOk result (λ f. option_map finding_of f.bad_hex ≡ spec.bad_hex the_readers (string_of string.now)) }
+    ensures bad_regex { IfOk result (λ f. option_map finding_of f.bad_regex ≡ spec.bad_regex the_readers (string_of string.now)) }
+    ensures large { IfOk result (λ f. option_map finding_of f.large ≡ spec.large_string the_readers (string_of string.now)) }
+    ensures weight { IfOk result (λ f. f.weight ≡ min (weight_of_string (checked_string the_readers rule (string_of string.now))) (2 ^ 64 - 1)) }
+{
+    match &string.body {
+        StringBody::Text(text) => {
+            let modifiers = sound_modifiers(string);
+            Ok(text_findings(string, text, &modifiers))
+        }
+        StringBody::Hex(_) | StringBody::Regex(_) => {
+            let read = read_checked(alloc, string, rule)?;
+            Ok(found_on(&read))
+        }
+    }
+}
+
+/// What is found on one string before what is found on those behind it.
+fn before<'a>(one: &StringFindings<'a>, later: StringFindings<'a>) -> StringFindings<'a>
+    ensures bad_hex { option_map finding_of result.bad_hex ≡ option_or (option_map finding_of one.now.bad_hex) (option_map finding_of later.entry.bad_hex) }
+    ensures bad_regex { option_map finding_of result.bad_regex ≡ option_or (option_map finding_of one.now.bad_regex) (option_map finding_of later.entry.bad_regex) }
+    ensures large { option_map finding_of result.large ≡ option_or (option_map finding_of one.now.large) (option_map finding_of later.entry.large) }
+    ensures weight { result.weight ≡ min (one.now.weight + later.entry.weight) (2 ^ 64 - 1) }
+{
+    StringFindings {
+        bad_hex: one.bad_hex.or(later.bad_hex),
+        bad_regex: one.bad_regex.or(later.bad_regex),
+        large: one.large.or(later.large),
+        weight: one.weight.saturating_add(later.weight),
     }
 }
 
@@ -140,8 +242,8 @@ pub fn string_findings<'a>(
 {
     let mut all = no_findings();
     for i in (0..strings.len()).rev() {
-        let read = read_checked(alloc, &strings[i], rule)?;
-        all = before(&read, all);
+        let one = one_string(alloc, &strings[i], rule)?;
+        all = before(&one, all);
     }
     Ok(all)
 }
