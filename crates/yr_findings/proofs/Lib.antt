@@ -4,3 +4,5 @@ pub mod UnusedLemmas
 pub mod MeansLemmas
 pub mod TextSizeLemmas
 pub mod StringLemmas
+pub mod ListLemmas
+pub mod ItemLemmas

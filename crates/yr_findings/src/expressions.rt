@@ -83,13 +83,12 @@ pub fn first_expression_findings<'a>(
     ensures bad { IfOk result (λ f. option_map finding_of f.bad ≡ first (spec.bad_use the_readers) (map use_of uses.now)) }
     ensures large { IfOk result (λ f. option_map finding_of f.large ≡ first (spec.large_use the_readers) (map use_of uses.now)) }
 {
-    let mut all = no_findings();
+    let mut bad = None;
+    let mut large = None;
     for i in (0..uses.len()).rev() {
         let one = expression_findings(alloc, &uses[i])?;
-        all = ExpressionFindings {
-            bad: one.bad.or(all.bad),
-            large: one.large.or(all.large),
-        };
+        bad = one.bad.or(bad);
+        large = one.large.or(large);
     }
-    Ok(all)
+    Ok(ExpressionFindings { bad, large })
 }

@@ -2,7 +2,7 @@
 
 ghost use Rattle.std.specs.Prelude.{◌≡◌, ◌+◌, ◌-◌, ◌^◌, IfOk, None, length, map, min, nat_lt};
 ghost use Rattle.std.specs.List.{list_any};
-ghost use Rattle.std.specs.Option.{option_map, option_or};
+ghost use Rattle.std.specs.Option.{option_map};
 ghost use Rattle.yr_numbered.specs.Names.{first, with_sign};
 ghost use Rattle.yr_nodes.specs.Fixed.{the_readers};
 ghost use Rattle.yr_nodes.specs.Readers.{modifiers_of};
@@ -116,20 +116,6 @@ fn read_checked<'a>(
     })
 }
 
-fn no_findings<'a>() -> StringFindings<'a>
-    ensures bad_hex { option_map finding_of result.bad_hex ≡ None }
-    ensures bad_regex { option_map finding_of result.bad_regex ≡ None }
-    ensures large { option_map finding_of result.large ≡ None }
-    ensures weight { result.weight ≡ 0 }
-{
-    StringFindings {
-        bad_hex: None,
-        bad_regex: None,
-        large: None,
-        weight: 0,
-    }
-}
-
 fn capped(weight: u128) -> u64
     ensures { result ≡ min weight (2 ^ 64 - 1) }
 {
@@ -213,21 +199,6 @@ fn one_string<'a>(
     }
 }
 
-/// What is found on one string before what is found on those behind it.
-fn before<'a>(one: &StringFindings<'a>, later: StringFindings<'a>) -> StringFindings<'a>
-    ensures bad_hex { option_map finding_of result.bad_hex ≡ option_or (option_map finding_of one.now.bad_hex) (option_map finding_of later.entry.bad_hex) }
-    ensures bad_regex { option_map finding_of result.bad_regex ≡ option_or (option_map finding_of one.now.bad_regex) (option_map finding_of later.entry.bad_regex) }
-    ensures large { option_map finding_of result.large ≡ option_or (option_map finding_of one.now.large) (option_map finding_of later.entry.large) }
-    ensures weight { result.weight ≡ min (one.now.weight + later.entry.weight) (2 ^ 64 - 1) }
-{
-    StringFindings {
-        bad_hex: one.bad_hex.or(later.bad_hex),
-        bad_regex: one.bad_regex.or(later.bad_regex),
-        large: one.large.or(later.large),
-        weight: one.weight.saturating_add(later.weight),
-    }
-}
-
 /// The first findings on the patterns of strings, and what the strings weigh. No string is kept.
 pub fn string_findings<'a>(
     alloc: Global,
@@ -240,12 +211,23 @@ pub fn string_findings<'a>(
     ensures large { IfOk result (λ f. option_map finding_of f.large ≡ first (spec.large_string the_readers) (map string_of strings.now)) }
     ensures weight { IfOk result (λ f. f.weight ≡ min (total weight_of_string (map (checked_string the_readers rule) (map string_of strings.now))) (2 ^ 64 - 1)) }
 {
-    let mut all = no_findings();
+    let mut bad_hex = None;
+    let mut bad_regex = None;
+    let mut large = None;
+    let mut weight: u64 = 0;
     for i in (0..strings.len()).rev() {
         let one = one_string(alloc, &strings[i], rule)?;
-        all = before(&one, all);
+        bad_hex = one.bad_hex.or(bad_hex);
+        bad_regex = one.bad_regex.or(bad_regex);
+        large = one.large.or(large);
+        weight = one.weight.saturating_add(weight);
     }
-    Ok(all)
+    Ok(StringFindings {
+        bad_hex,
+        bad_regex,
+        large,
+        weight,
+    })
 }
 
 /// The checked strings of a rule.

@@ -9,6 +9,6 @@ use Rattle.yr_findings.proofs.expressions.first_expression_findings.Given as goa
 
 abbrev pub invariant-loop-i : goal.invariant-loop-i
 invariant-loop-i l = record {
-  bad : option_map finding_of l.all.bad ≡ first (bad_use the_readers) (map use_of (drop l.i l.uses));
-  large : option_map finding_of l.all.large ≡ first (large_use the_readers) (map use_of (drop l.i l.uses));
+  bad : option_map finding_of l.bad ≡ first (bad_use the_readers) (map use_of (drop l.i l.uses));
+  large : option_map finding_of l.large ≡ first (large_use the_readers) (map use_of (drop l.i l.uses));
 }

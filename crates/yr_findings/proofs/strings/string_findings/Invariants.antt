@@ -11,8 +11,8 @@ use Rattle.yr_findings.proofs.strings.string_findings.Given as goal
 
 abbrev pub invariant-loop-i : goal.invariant-loop-i
 invariant-loop-i l = record {
-  bad_hex : option_map finding_of l.all.bad_hex ≡ first (bad_hex the_readers) (map string_of (drop l.i l.strings));
-  bad_regex : option_map finding_of l.all.bad_regex ≡ first (bad_regex the_readers) (map string_of (drop l.i l.strings));
-  large : option_map finding_of l.all.large ≡ first (large_string the_readers) (map string_of (drop l.i l.strings));
-  weight : l.all.weight ≡ min (total string_weight (map (checked_string the_readers l.rule) (map string_of (drop l.i l.strings)))) (2 ^ 64 - 1);
+  bad_hex : option_map finding_of l.bad_hex ≡ first (bad_hex the_readers) (map string_of (drop l.i l.strings));
+  bad_regex : option_map finding_of l.bad_regex ≡ first (bad_regex the_readers) (map string_of (drop l.i l.strings));
+  large : option_map finding_of l.large ≡ first (large_string the_readers) (map string_of (drop l.i l.strings));
+  weight : l.weight ≡ min (total string_weight (map (checked_string the_readers l.rule) (map string_of (drop l.i l.strings)))) (2 ^ 64 - 1);
 }
