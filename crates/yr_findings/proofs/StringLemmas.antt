@@ -1,5 +1,5 @@
 -- What is found on a text string, and what it weighs, by the number of its bytes.
-use Rattle.std.proofs.Common.{◌≡◌, ℕ, ◌+◌, List, length, refl, sym, ap, ◌∙◌, nat_lt, Some, None}
+use Rattle.std.proofs.Common.{◌≡◌, ℕ, ◌+◌, List, length, sym, ap, ◌∙◌, nat_lt, None}
 use Rattle.std.specs.List.{list_any}
 use Rattle.yr_numbered.specs.Names.{with_sign}
 use Rattle.yr_nodes.specs.Readers.{Readers, body_variants, modifiers_of, string_variants}

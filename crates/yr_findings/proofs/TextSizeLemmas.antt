@@ -1,6 +1,6 @@
 -- The variants of a text add up to what its size says.
-use Rattle.std.proofs.Common.{◌≡◌, ℕ, zero, suc, ◌+◌, ◌-◌, ◌*◌, ◌/◌, ◌≤◌, ◌<◌, ◌||◌, Bool, true, false, List, [], ◌∷◌, ◌++◌, length, map, refl, sym, ap, ◌∙◌, arith, Option, Some, None, nat_lt}
-use Rattle.std.specs.Prelude.{not, if◌then◌else◌, nat_le, is_some}
+use Rattle.std.proofs.Common.{◌≡◌, ℕ, zero, suc, ◌+◌, ◌-◌, ◌*◌, ◌/◌, ◌≤◌, ◌||◌, Bool, true, false, List, [], ◌∷◌, ◌++◌, length, map, refl, sym, ap, ◌∙◌, arith, Option, Some, None, nat_lt}
+use Rattle.std.specs.Prelude.{not, if◌then◌else◌, is_some}
 use Rattle.std.specs.List.{flat_map, range_with_len, list_any}
 use Rattle.std.proofs.lemmas.Bool.{le-leb, lt-ltb}
 use Rattle.std.proofs.lemmas.List.{length-append}
@@ -9,8 +9,8 @@ use Rattle.yr_pattern.specs.Variants.{PlainVariant, variant_size}
 use Rattle.yr_rules.specs.Weight.{total, variant_weight}
 use Rattle.yr_text.specs.declared.modifiers.Modifiers.{Modifiers}
 use Rattle.yr_text.specs.Encoding.{encoded, group_letter}
-use Rattle.yr_text.specs.Forms.{PlainForm, forms_of, plain_border, wide_border, widened, with_zero}
-use Rattle.yr_text.specs.Variants.{aligned, alignments, encodings, keyed, literal, literals, literals_of, spread, under_keys, unless_empty, variants_of}
+use Rattle.yr_text.specs.Forms.{PlainForm, forms_of, plain_border, wide_border, widened}
+use Rattle.yr_text.specs.Variants.{aligned, alignments, encodings, keyed, literal, literals, literals_of, spread, unless_empty, variants_of}
 use Rattle.yr_types.specs.Patterns.{is_large}
 use Rattle.yr_findings.specs.TextSizes.{aligned_sum, encodings_sum, form_sum, key_count, large_count, letters, literal_weight, literals_sum, text_sum, unless_none}
 

@@ -1,5 +1,5 @@
 -- What the code keeps of findings, as plain data.
-use Rattle.std.specs.Prelude.{◌≡◌, ℕ, false, List, [], ◌∷◌}
+use Rattle.std.specs.Prelude.{◌≡◌, false, [], ◌∷◌}
 use Rattle.yr_numbered.specs.Names.{Name, with_star}
 use Rattle.yr_syntax.specs.Declaration.{StringTree, kind_of}
 use Rattle.yr_syntax.specs.Forms.{IsShortText, StringHasForms}

@@ -1,6 +1,5 @@
 -- What a condition uses of its rule's strings, by the names that stand in it.
 use Rattle.std.specs.Prelude.{◌||◌, Bool, true, false, not, List, [], ◌∷◌, Option, codes}
-use Rattle.std.specs.List.{list_any, flat_map}
 use Rattle.yr_numbered.specs.Names.{Name, has, begins, with_sign}
 use Rattle.yr_uses.specs.Uses as use'
 use Rattle.yr_uses.specs.Uses.{Use}

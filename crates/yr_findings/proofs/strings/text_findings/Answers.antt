@@ -1,4 +1,4 @@
-use Rattle.std.proofs.Common.{◌≡◌, ◌+◌, ◌-◌, ◌^◌, length, min, sym, ap, ◌∙◌, nat_lt}
+use Rattle.std.proofs.Common.{◌+◌, ◌-◌, ◌^◌, length, min, sym, ap, ◌∙◌, nat_lt}
 use Rattle.yr_numbered.specs.Names.{with_sign}
 use Rattle.yr_nodes.specs.Fixed.{the_readers}
 use Rattle.yr_syntax.specs.Declaration.{string_of}

@@ -1,4 +1,4 @@
-use Rattle.std.proofs.Common.{◌≡◌, ◌+◌, Bool, sym, subst}
+use Rattle.std.proofs.Common.{◌+◌, sym, subst}
 use Rattle.yr_findings.specs.TextSizes.{IsTally, aligned_sum, encodings_sum}
 use Rattle.yr_findings.proofs.text_sizes.encodings.Goals as goal
 

@@ -1,4 +1,4 @@
-use Rattle.std.proofs.Common.{◌≡◌, ◌+◌, Bool, true, false, sym, subst}
+use Rattle.std.proofs.Common.{◌+◌, true, false, subst}
 use Rattle.std.specs.Prelude.{is_some}
 use Rattle.yr_findings.specs.TextSizes.{IsTally, encodings_sum, literals_sum}
 use Rattle.yr_findings.proofs.text_sizes.form.Goals as goal

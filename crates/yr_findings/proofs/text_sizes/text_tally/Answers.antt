@@ -1,4 +1,4 @@
-use Rattle.std.proofs.Common.{◌≡◌, ◌*◌, Bool, subst}
+use Rattle.std.proofs.Common.{◌*◌, subst}
 use Rattle.std.specs.Prelude.{◌||◌, not, if◌then◌else◌}
 use Rattle.yr_findings.specs.TextSizes.{IsTally, form_sum}
 use Rattle.yr_findings.proofs.text_sizes.text_tally.Goals as goal
