@@ -1,5 +1,5 @@
 -- The ends from one place and those from the place behind it.
-use Rattle.std.proofs.Common.{◌≡◌, ℕ, zero, suc, ◌+◌, ◌<◌, ◌≤◌, ◌⊎◌, inl, inr, Bool, true, false, IsTrue, List, [], length, Option, Some, None, refl, sym, ap, ◌∙◌, subst, arith, le_trans, le_refl, true≢false}
+use Rattle.std.proofs.Common.{◌≡◌, ℕ, zero, suc, ◌+◌, ◌-◌, ◌^◌, ◌<◌, ◌≤◌, ◌⊎◌, inl, inr, Bool, true, false, IsTrue, List, [], length, Option, Some, None, refl, sym, ap, ◌∙◌, subst, arith, le_trans, le_refl, true≢false}
 use Rattle.std.specs.Prelude.{slice_get, slice_index, if◌then◌else◌, ◌↔◌}
 use Rattle.std.specs.Bool.{MatchBool}
 use Rattle.std.proofs.lemmas.Bool.{cases_lt}
@@ -16,7 +16,7 @@ use Rattle.yr_ends.specs.declared.carried.Carried.{Carried}
 use Rattle.yr_ends.specs.Carried.{Holds, AreBelow, IsNoWorse, Falls}
 use Rattle.yr_ends.specs.Arcs.{Leads, Joins, Stays}
 use Rattle.yr_ends.specs.Spreads.{Grows, HasFloor, HoldsAs, Spreads, AreClosed, CameFrom, IsReady, Carries}
-use Rattle.yr_ends.specs.EndWalks.{Walk, EndsFrom, AreBeyond, AreHere, IsBestEnd, or_else}
+use Rattle.yr_ends.specs.EndWalks.{Walk, Kept, EndsFrom, AreBeyond, AreHere, HasRoom, IsMidway, IsBestEnd, or_else}
 use Rattle.yr_ends.proofs.HoldLemmas.{grows_has, nothing_held, no_worse_trans, no_worse_is}
 use Rattle.yr_ends.proofs.JoinLemmas.{move_within, names_of}
 use Rattle.yr_ends.proofs.ListLemmas.{get_within}
@@ -98,12 +98,12 @@ module _ (walk : Walk) where
   stays_below i (suc k) e x lt s = stays_below i k s.0 x (move_within walk.moves s.0 s.1.0 s.1.1) s.2
 
   -- the file has a byte here, and what lists say of the place behind it was carried over the byte
-  module _ (i b : ℕ) (at : slice_get walk.file i ≡ Some b) (first then before mid new : List Carried) (none : before ≡ [])
-      (c1 : Carries true walk.moves walk.sets walk.file i b first 0 (length first) before mid) (c2 : Carries true walk.moves walk.sets walk.file i b then 0 (length then) mid new)
-      (falls1 : Falls walk.greedy first) (falls2 : Falls walk.greedy then)
-      (between : (m o m' o' : ℕ) → Holds first m o → Holds then m' o' → IsNoWorse walk.greedy o o')
-      (sound : (m j : ℕ) → Holds first m j ⊎ Holds then m j → EndsFrom walk m (i + 1) j × (i + 1 ≤ j))
-      (complete : (m j : ℕ) → EndsFrom walk m (i + 1) j → i + 1 ≤ j → HoldsAs walk.greedy j first m ⊎ HoldsAs walk.greedy j then m) where
+  module _ (i b : ℕ) (at : slice_get walk.file i ≡ Some b) (first second before mid new : List Carried) (none : before ≡ [])
+      (c1 : Carries true walk.moves walk.sets walk.file i b first 0 (length first) before mid) (c2 : Carries true walk.moves walk.sets walk.file i b second 0 (length second) mid new)
+      (falls1 : Falls walk.greedy first) (falls2 : Falls walk.greedy second)
+      (between : (m o m' o' : ℕ) → Holds first m o → Holds second m' o' → IsNoWorse walk.greedy o o')
+      (sound : (m j : ℕ) → Holds first m j ⊎ Holds second m j → EndsFrom walk m (i + 1) j × (i + 1 ≤ j))
+      (complete : (m j : ℕ) → EndsFrom walk m (i + 1) j → i + 1 ≤ j → HoldsAs walk.greedy j first m ⊎ HoldsAs walk.greedy j second m) where
     abbrev Ready : List Carried → ℕ → List Carried → Type 0
     Ready old k items = IsReady true walk.moves walk.sets walk.file i walk.greedy old k items
 
@@ -123,14 +123,14 @@ module _ (walk : Walk) where
       | inr u ↦ (u.0, u.1, u.2, (u.3, u.6), u.7, u.8)
     ]
 
-    ready_then : Ready then 0 mid
+    ready_then : Ready second 0 mid
     ready_then = record {
       falls = ready_mid.falls;
       closed = ready_mid.closed;
       floor = λ q d le e m o h. let u = mid_from m o h in between u.0 o d.by d.end u.3 (q, e);
     }
 
-    ready_new : Ready then (length then) new
+    ready_new : Ready second (length second) new
     ready_new = c2.ready walk.greedy falls2 ready_then
 
     new_ends : (x z e k j : ℕ) → EndsFrom walk z (i + 1) j → Joined i (Some b) z e → Stays true walk.moves walk.sets walk.file i k e x → EndsFrom walk x i j
@@ -165,7 +165,7 @@ module _ (walk : Walk) where
                 (c.0, c2.keeps m c.0 c.1, no_worse_trans walk.greedy c.0 h.0 j c.2 h.2)
             | inr h ↦
                 let d : Carried = record { by = r.1; end = h.0 } in
-                let c = c2.reached walk.greedy falls2 ready_then h.1.0 d m (omega arith) (get_within then h.1.0 d h.1.1) h.1.1 over in
+                let c = c2.reached walk.greedy falls2 ready_then h.1.0 d m (omega arith) (get_within second h.1.0 d h.1.1) h.1.1 over in
                 (c.0, c.1, no_worse_trans walk.greedy c.0 h.0 j c.2 h.2)
           ]
     ]
@@ -211,18 +211,18 @@ module _ (walk : Walk) where
 
     pub brought_greedy : walk.greedy ≡ true → Carries true walk.moves walk.sets walk.file i b beyond 0 (length beyond) before mid →
         Carries true walk.moves walk.sets walk.file i b here 0 (length here) mid new → AreBeyond walk i new
-    brought_greedy yes c1 c2 = brought i b at beyond here before mid new none c1 c2 far.falls same_end
+    brought_greedy is_greedy c1 c2 = brought i b at beyond here before mid new none c1 c2 far.falls same_end
         (λ m o m' o' h h'.
             let N : Bool → Type 0 = λ g. IsNoWorse g o o' in
-            subst N (sym yes) (omega (arith, (far.sound m o h).1, (near.sound m' o' h').1)))
+            subst N (sym is_greedy) (omega (arith, (far.sound m o h).1, (near.sound m' o' h').1)))
         any_sound any_complete
 
     pub brought_least : walk.greedy ≡ false → Carries true walk.moves walk.sets walk.file i b here 0 (length here) before mid →
         Carries true walk.moves walk.sets walk.file i b beyond 0 (length beyond) mid new → AreBeyond walk i new
-    brought_least no c1 c2 = brought i b at here beyond before mid new none c1 c2 same_end far.falls
+    brought_least is_least c1 c2 = brought i b at here beyond before mid new none c1 c2 same_end far.falls
         (λ m o m' o' h h'.
             let N : Bool → Type 0 = λ g. IsNoWorse g o o' in
-            subst N (sym no) (omega (arith, (near.sound m o h).1, (far.sound m' o' h').1)))
+            subst N (sym is_least) (omega (arith, (near.sound m o h).1, (far.sound m' o' h').1)))
         (λ m j h. any_sound m j (swapped h)) (λ m j e le. swapped (any_complete m j e le))
 
   -- the moves from which the place is an end: those that lead to Accept
@@ -266,6 +266,13 @@ module _ (walk : Walk) where
 
       pub looked : AreHere walk i new
       looked = record { sound = here_sound; complete = λ m e. here_complete e.0 m e.1 e.2 e.3 }
+
+  -- what is joined at first carries the place
+  pub joined_floor : (i : ℕ) (before mid : List Carried) → before ≡ [] → Spreads true walk.moves walk.sets walk.file i None (length walk.moves) i before mid → HasFloor walk.greedy i mid
+  joined_floor i before mid none s m o h = elim (s.only m o h) [
+    | inl was ↦ absurd (nothing_held before m o none was)
+    | inr came ↦ no_worse_is walk.greedy o i came.0
+  ]
 
   pub nothing_here : (i : ℕ) (new : List Carried) → new ≡ [] → (IsTrue (has_right_border walk.border walk.file i) → ⊥) → AreHere walk i new
   nothing_here i new none unfit = record {
@@ -321,29 +328,29 @@ module _ (walk : Walk) where
     only_behind is o e = elim (here_or_behind o e) [ inl s ↦ s | inr lt ↦ absurd (none_behind o is e lt) ]
 
     best_greedy : walk.greedy ≡ true → (r s : Option ℕ) → behind ≡ r → at ≡ s → IsBestEnd walk i i (or_else r s)
-    best_greedy yes None None is is' = λ j e.
+    best_greedy is_greedy None None is is' = λ j e.
         let from = ends_of i j e in
         let E : ℕ → Type 0 = λ o. EndsFrom walk 0 i o in not_here is' (subst E (only_behind is j from) from)
-    best_greedy yes None (Some j) is is' =
+    best_greedy is_greedy None (Some j) is is' =
         let h = is_here j is' in
         let E : ℕ → Type 0 = λ o. EndsFrom walk 0 i o in
         (at_least j (subst E (sym h.1) h.0), λ o e. no_worse_is walk.greedy j o (h.1 ∙ sym (only_behind is o (ends_of i o e))))
-    best_greedy yes (Some j) s is is' =
+    best_greedy is_greedy (Some j) s is is' =
         let f = far.sound 0 j ((found j).0 is) in
         (at_least j f.0, λ o e. elim (here_or_behind o (ends_of i o e)) [
-          | inl same ↦ let N : Bool → Type 0 = λ g. IsNoWorse g j o in subst N (sym yes) (omega (arith, same, f.1))
+          | inl same ↦ let N : Bool → Type 0 = λ g. IsNoWorse g j o in subst N (sym is_greedy) (omega (arith, same, f.1))
           | inr lt ↦ best_behind j o is (ends_of i o e) lt
         ])
 
     best_least : walk.greedy ≡ false → (r s : Option ℕ) → behind ≡ r → at ≡ s → IsBestEnd walk i i (or_else s r)
-    best_least no r (Some j) is is' =
+    best_least is_least r (Some j) is is' =
         let h = is_here j is' in
         let E : ℕ → Type 0 = λ o. EndsFrom walk 0 i o in
-        (at_least j (subst E (sym h.1) h.0), λ o e. let N : Bool → Type 0 = λ g. IsNoWorse g j o in subst N (sym no) (omega (arith, h.1, e.1)))
-    best_least no None None is is' = λ j e.
+        (at_least j (subst E (sym h.1) h.0), λ o e. let N : Bool → Type 0 = λ g. IsNoWorse g j o in subst N (sym is_least) (omega (arith, h.1, e.1)))
+    best_least is_least None None is is' = λ j e.
         let from = ends_of i j e in
         let E : ℕ → Type 0 = λ o. EndsFrom walk 0 i o in not_here is' (subst E (only_behind is j from) from)
-    best_least no (Some j) None is is' =
+    best_least is_least (Some j) None is is' =
         let f = far.sound 0 j ((found j).0 is) in
         (at_least j f.0, λ o e. elim (here_or_behind o (ends_of i o e)) [
           | inl same ↦ let E : ℕ → Type 0 = λ n. EndsFrom walk 0 i n in absurd (not_here is' (subst E same (ends_of i o e)))
@@ -354,5 +361,35 @@ module _ (walk : Walk) where
     best_here best is = let I : Option ℕ → Type 0 = λ o. IsBestEnd walk i i o in subst I (sym is) (of walk.greedy refl)
       where
         of : (g : Bool) → walk.greedy ≡ g → IsBestEnd walk i i (if g then or_else behind at else or_else at behind)
-        of true yes = best_greedy yes behind at refl refl
-        of false no = best_least no behind at refl refl
+        of true is_greedy = best_greedy is_greedy behind at refl refl
+        of false is_least = best_least is_least behind at refl refl
+
+-- a place without a byte is the end
+pub past_end : (file : List ℕ) (i : ℕ) → i ≤ length file → slice_get file i ≡ None → i ≡ length file
+past_end file i le none = elim (cases_lt i (length file)) [
+  | inl lt ↦ let both : None ≡ Some (slice_index file i) = sym none ∙ slice_get-get_or file i 0 lt in cc both
+  | inr ge ↦ omega (arith, le, ge)
+]
+
+-- what the lists say does not look at the walk's own place
+pub moved_beyond : (walk : Walk) (p i : ℕ) (items : List Carried) → AreBeyond walk i items → AreBeyond (record walk { place = p }) i items
+moved_beyond walk p i items a = record { falls = a.falls; sound = a.sound; complete = a.complete }
+
+pub moved_here : (walk : Walk) (p i : ℕ) (items : List Carried) → AreHere walk i items → AreHere (record walk { place = p }) i items
+moved_here walk p i items a = record { sound = a.sound; complete = a.complete }
+
+pub midway_next : (walk next : Walk) (old new : Kept) → IsMidway walk old → 0 < walk.place → next ≡ record walk { place = walk.place - 1 } → HasRoom (length next.moves + 1) new →
+    AreBelow (length next.moves) new.beyond.items → AreBelow (length next.moves) new.here.items → AreBeyond next next.place new.beyond.items → AreHere next next.place new.here.items → IsMidway next new
+midway_next walk next old new m more is room below below_here far near =
+    let G : Walk → Type 0 = λ x. AreWellformedMoves x.moves x.sets in
+    let S : Walk → Type 0 = λ x. length x.file ≤ 2 ^ 28 in
+    let P : Walk → Type 0 = λ x. x.place ≤ length x.file + 1 in
+    record {
+      wellformed = subst G (sym is) m.wellformed;
+      small = subst S (sym is) m.small;
+      place = subst P (sym is) (omega (arith, m.place));
+      room = room;
+      below = (below, below_here);
+      beyond = λ le. far;
+      here = λ le. near;
+    }

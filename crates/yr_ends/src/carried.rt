@@ -1,6 +1,6 @@
 //! Moves with the ends that they carry. They take no memory once they are made.
 
-ghost use Rattle.std.specs.Prelude.{◌≡◌, ℕ, ◌<◌, ◌≤◌, ◌↔◌, [], length, Some, IfOk, slice_get, ◌==◌};
+ghost use Rattle.std.specs.Prelude.{◌≡◌, ℕ, ◌<◌, ◌≤◌, ◌↔◌, [], length, Some, IfOk, slice_get};
 ghost use Rattle.yr_ends.specs.Carried.{Adds, AreBelow, Holds};
 
 use std::alloc::{AllocError, Global};
@@ -51,12 +51,6 @@ impl EndList {
         ensures few { (n : ℕ) → AreBelow n self.now.items → result ≤ n }
     {
         self.len
-    }
-
-    pub fn is_empty(&self) -> bool
-        ensures { result ≡ (length self.now.items == 0) }
-    {
-        self.len == 0
     }
 
     /// A member by its order.

@@ -1,10 +1,12 @@
 //! The ends of a program from each place of a file.
 
-ghost use Rattle.std.specs.Prelude.{◌≡◌, ℕ, ◌+◌, ◌-◌, ◌*◌, ◌<◌, ◌≤◌, ◌^◌, [], length, IfOk, true, if◌then◌else◌};
+ghost use Rattle.std.specs.Prelude.{◌≡◌, ℕ, ◌+◌, ◌-◌, ◌*◌, ◌<◌, ◌≤◌, ◌^◌, [], List, length, IfOk, true, slice_get, if◌then◌else◌};
 ghost use Rattle.yr_rows.specs.Moves.{AreWellformedMoves};
 ghost use Rattle.yr_moves.specs.Programs.{moves_of, sets_of, IsWellformed};
 ghost use Rattle.yr_ends.specs.Arcs.{AreEdges};
+ghost use Rattle.yr_ends.specs.declared.carried.Carried.{Carried};
 ghost use Rattle.yr_ends.specs.Carried.{AreBelow};
+ghost use Rattle.yr_ends.specs.Spreads.{Carries};
 ghost use Rattle.yr_ends.specs.EndWalks.{AreBeyond, AreHere, HasRoom, IsBestEnd, IsMidway, or_else};
 
 use crate::carried::EndList;
@@ -119,6 +121,42 @@ fn or_else(first: Option<u32>, second: Option<u32>) -> Option<u32>
     }
 }
 
+// The byte at a place.
+fn byte_at(file: &[u8], i: usize) -> Option<u8>
+    ensures { result ≡ slice_get file.now i }
+{
+    file.get(i).copied()
+}
+
+// Carries the ends of two lists over the byte, those of the first before the others.
+fn carry_both<L: Ledger>(
+    rows: &ProgramRows<'_>,
+    edges: &Edges,
+    file: &[u8],
+    i: usize,
+    byte: u8,
+    first: &EndList,
+    second: &EndList,
+    list: &mut EndList,
+    steps: &mut Steps<L>,
+)
+    requires wellformed { IsWellformed rows.now }
+    requires edges { AreEdges true (moves_of rows.now) edges.now }
+    requires place { i ≤ length file.now }
+    requires inside { AreBelow (length (moves_of rows.now)) first.now.items × AreBelow (length (moves_of rows.now)) second.now.items }
+    requires empty { list.old.items ≡ [] }
+    requires room { length (moves_of rows.now) + 1 ≤ list.old.room }
+    ensures carries { (mid : List Carried)
+        × Carries true (moves_of rows.now) (sets_of rows.now) file.now i byte first.now.items 0 (length first.now.items) list.old.items mid
+        × Carries true (moves_of rows.now) (sets_of rows.now) file.now i byte second.now.items 0 (length second.now.items) mid list.new.items }
+    ensures below { AreBelow (length (moves_of rows.now)) list.new.items }
+    ensures room { list.new.room ≡ list.old.room }
+    ensures cost { steps.new ≡ steps.old + length list.new.items }
+{
+    carry(rows, edges, file, i, byte, first, 0, first.len(), list, steps);
+    carry(rows, edges, file, i, byte, second, 0, second.len(), list, steps);
+}
+
 impl<'a> EndWalk<'a> {
     /// The walk falls to the next place. The answer is the best end from there, and the best that is behind it. A step is
     /// a move that carries an end.
@@ -140,6 +178,13 @@ impl<'a> EndWalk<'a> {
         let here = &mut marks.here;
         let onwards = &mut marks.onwards;
         self.fall(beyond, here, onwards, steps)
+    }
+
+    /// The places from this one on are done.
+    pub fn place(&self) -> u32
+        ensures { result ≡ self.now.place }
+    {
+        self.place
     }
 
     // `next` with the lists apart.
@@ -164,7 +209,7 @@ impl<'a> EndWalk<'a> {
         self.step_down();
         self.bring(beyond, here, onwards, steps);
         self.look(here, steps);
-        if onwards.is_empty() && here.is_empty() {
+        if onwards.len() + here.len() == 0 {
             steps.tick();
         }
         std::mem::swap(beyond, onwards);
@@ -212,16 +257,16 @@ impl<'a> EndWalk<'a> {
     {
         onwards.clear();
         let i = self.place as usize;
-        if i == self.file.len() {
-            return;
-        }
-        let b = self.file[i];
-        if self.greedy {
-            carry(&self.rows, self.edges, self.file, i, b, beyond, 0, beyond.len(), onwards, steps);
-            carry(&self.rows, self.edges, self.file, i, b, here, 0, here.len(), onwards, steps);
-        } else {
-            carry(&self.rows, self.edges, self.file, i, b, here, 0, here.len(), onwards, steps);
-            carry(&self.rows, self.edges, self.file, i, b, beyond, 0, beyond.len(), onwards, steps);
+        let rows = &self.rows;
+        match byte_at(self.file, i) {
+            None => (),
+            Some(b) => {
+                if self.greedy {
+                    carry_both(rows, self.edges, self.file, i, b, beyond, here, onwards, steps);
+                } else {
+                    carry_both(rows, self.edges, self.file, i, b, here, beyond, onwards, steps);
+                }
+            }
         }
     }
 
