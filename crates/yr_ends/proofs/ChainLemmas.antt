@@ -1,5 +1,5 @@
 -- Chains of arcs: how they are built, and how they are walked.
-use Rattle.std.proofs.Common.{◌≡◌, ℕ, zero, suc, ◌+◌, ◌*◌, ◌/◌, ◌<◌, ◌≤◌, ◌⊎◌, inl, inr, Bool, List, length, Option, Some, None, refl, sym, ap, ◌∙◌, subst, arith, length-set}
+use Rattle.std.proofs.Common.{◌≡◌, ℕ, zero, suc, ◌+◌, ◌*◌, ◌<◌, ◌≤◌, inl, inr, Bool, List, length, Option, Some, None, refl, sym, ap, ◌∙◌, subst, arith, length-set}
 use Rattle.std.specs.Prelude.{slice_get, slice_set, replicate}
 use Rattle.yr_rows.specs.declared.moves.MoveRow.{MoveRow}
 use Rattle.yr_ends.specs.Arcs.{HasChain, AreChained, head_at}
@@ -104,9 +104,11 @@ chained_add back moves e x h first after c lt le at is =
             let same : Some o.0 ≡ Some h = sym o.1 ∙ is in
             let link : o.0 ≡ h = cc same in
             let C : ℕ → Type 0 = λ k. HasChain heads after e k x in
-            let D : ℕ → Type 0 = λ z. HasChain heads (slice_set after e h) (e + 1) (e + 1) z in
-            (e + 1, ap (slice_get (slice_set first x (e + 1))) (sym s) ∙ set_same first x (e + 1) (omega (arith, c.firsts, le)),
-             subst D s (chain_add heads after e h x (omega (arith, lt, c.afters)) at (subst C link o.2)))
+            let D : ℕ → Type 0 = λ z. HasChain heads (slice_set after e h) (e + 1) (e + 1) z in (
+              e + 1,
+              ap (slice_get (slice_set first x (e + 1))) (sym s) ∙ set_same first x (e + 1) (omega (arith, c.firsts, le)),
+              subst D s (chain_add heads after e h x (omega (arith, lt, c.afters)) at (subst C link o.2)),
+            )
         | inr other ↦
             let o = c.chains y le' in
             let away : head_at back moves e ≡ Some y → ⊥ = λ e'. let both : Some x ≡ Some y = sym at ∙ e' in other (cc both) in

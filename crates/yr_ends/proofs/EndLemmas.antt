@@ -1,17 +1,15 @@
 -- The ends from one place and those from the place behind it.
-use Rattle.std.proofs.Common.{◌≡◌, ℕ, zero, suc, ◌+◌, ◌-◌, ◌^◌, ◌<◌, ◌≤◌, ◌⊎◌, inl, inr, Bool, true, false, IsTrue, List, [], length, Option, Some, None, refl, sym, ap, ◌∙◌, subst, arith, le_trans, le_refl, true≢false}
+use Rattle.std.proofs.Common.{◌≡◌, ℕ, zero, suc, ◌+◌, ◌-◌, ◌^◌, ◌<◌, ◌≤◌, ◌⊎◌, inl, inr, Bool, true, false, IsTrue, List, [], length, Option, Some, None, refl, sym, ap, ◌∙◌, subst, arith, le_trans}
 use Rattle.std.specs.Prelude.{slice_get, slice_index, if◌then◌else◌, ◌↔◌}
-use Rattle.std.specs.Bool.{MatchBool}
 use Rattle.std.proofs.lemmas.Bool.{cases_lt}
 use Rattle.std.proofs.lemmas.Option.{slice_get-get_or, slice_get_within, get_or_from_slice_get}
-use Rattle.yr_base.specs.declared.border.Border.{Border}
 use Rattle.yr_base.specs.Places.{has_right_border}
 use Rattle.yr_rows.specs.Moves.{move_at, NamesAmong, AreWellformedMoves}
 use Rattle.yr_rows.specs.Accepts.{HasByte, ReadsForwards, Does, Run}
 use Rattle.yr_rows.specs.declared.moves.MoveRow.{MoveRow}
 use Rattle.yr_rows.specs.declared.moves.Move.{Move}
 use Rattle.yr_rows.specs.declared.moves.Move.TheVariants.{Accept, Set, Fork, Test}
-use Rattle.yr_moves.specs.Walks.{IsBest, IsEnd}
+use Rattle.yr_moves.specs.Walks.{IsEnd}
 use Rattle.yr_ends.specs.declared.carried.Carried.{Carried}
 use Rattle.yr_ends.specs.Carried.{Holds, AreBelow, IsNoWorse, Falls}
 use Rattle.yr_ends.specs.Arcs.{Leads, Joins, Stays}
@@ -213,16 +211,16 @@ module _ (walk : Walk) where
         Carries true walk.moves walk.sets walk.file i b here 0 (length here) mid new → AreBeyond walk i new
     brought_greedy is_greedy c1 c2 = brought i b at beyond here before mid new none c1 c2 far.falls same_end
         (λ m o m' o' h h'.
-            let N : Bool → Type 0 = λ g. IsNoWorse g o o' in
-            subst N (sym is_greedy) (omega (arith, (far.sound m o h).1, (near.sound m' o' h').1)))
+        let N : Bool → Type 0 = λ g. IsNoWorse g o o' in
+        subst N (sym is_greedy) (omega (arith, (far.sound m o h).1, (near.sound m' o' h').1)))
         any_sound any_complete
 
     pub brought_least : walk.greedy ≡ false → Carries true walk.moves walk.sets walk.file i b here 0 (length here) before mid →
         Carries true walk.moves walk.sets walk.file i b beyond 0 (length beyond) mid new → AreBeyond walk i new
     brought_least is_least c1 c2 = brought i b at here beyond before mid new none c1 c2 same_end far.falls
         (λ m o m' o' h h'.
-            let N : Bool → Type 0 = λ g. IsNoWorse g o o' in
-            subst N (sym is_least) (omega (arith, (near.sound m o h).1, (far.sound m' o' h').1)))
+        let N : Bool → Type 0 = λ g. IsNoWorse g o o' in
+        subst N (sym is_least) (omega (arith, (near.sound m o h).1, (far.sound m' o' h').1)))
         (λ m j h. any_sound m j (swapped h)) (λ m j e le. swapped (any_complete m j e le))
 
   -- the moves from which the place is an end: those that lead to Accept
@@ -336,11 +334,13 @@ module _ (walk : Walk) where
         let E : ℕ → Type 0 = λ o. EndsFrom walk 0 i o in
         (at_least j (subst E (sym h.1) h.0), λ o e. no_worse_is walk.greedy j o (h.1 ∙ sym (only_behind is o (ends_of i o e))))
     best_greedy is_greedy (Some j) s is is' =
-        let f = far.sound 0 j ((found j).0 is) in
-        (at_least j f.0, λ o e. elim (here_or_behind o (ends_of i o e)) [
-          | inl same ↦ let N : Bool → Type 0 = λ g. IsNoWorse g j o in subst N (sym is_greedy) (omega (arith, same, f.1))
-          | inr lt ↦ best_behind j o is (ends_of i o e) lt
-        ])
+        let f = far.sound 0 j ((found j).0 is) in (
+          at_least j f.0,
+          λ o e. elim (here_or_behind o (ends_of i o e)) [
+            | inl same ↦ let N : Bool → Type 0 = λ g. IsNoWorse g j o in subst N (sym is_greedy) (omega (arith, same, f.1))
+            | inr lt ↦ best_behind j o is (ends_of i o e) lt
+          ],
+        )
 
     best_least : walk.greedy ≡ false → (r s : Option ℕ) → behind ≡ r → at ≡ s → IsBestEnd walk i i (or_else s r)
     best_least is_least r (Some j) is is' =
@@ -351,11 +351,13 @@ module _ (walk : Walk) where
         let from = ends_of i j e in
         let E : ℕ → Type 0 = λ o. EndsFrom walk 0 i o in not_here is' (subst E (only_behind is j from) from)
     best_least is_least (Some j) None is is' =
-        let f = far.sound 0 j ((found j).0 is) in
-        (at_least j f.0, λ o e. elim (here_or_behind o (ends_of i o e)) [
-          | inl same ↦ let E : ℕ → Type 0 = λ n. EndsFrom walk 0 i n in absurd (not_here is' (subst E same (ends_of i o e)))
-          | inr lt ↦ best_behind j o is (ends_of i o e) lt
-        ])
+        let f = far.sound 0 j ((found j).0 is) in (
+          at_least j f.0,
+          λ o e. elim (here_or_behind o (ends_of i o e)) [
+            | inl same ↦ let E : ℕ → Type 0 = λ n. EndsFrom walk 0 i n in absurd (not_here is' (subst E same (ends_of i o e)))
+            | inr lt ↦ best_behind j o is (ends_of i o e) lt
+          ],
+        )
 
     pub best_here : (best : Option ℕ) → best ≡ (if walk.greedy then or_else behind at else or_else at behind) → IsBestEnd walk i i best
     best_here best is = let I : Option ℕ → Type 0 = λ o. IsBestEnd walk i i o in subst I (sym is) (of walk.greedy refl)

@@ -1,5 +1,5 @@
 -- The arcs of a move, one after another.
-use Rattle.std.proofs.Common.{◌≡◌, ℕ, zero, suc, ◌+◌, ◌*◌, ◌/◌, ◌<◌, ◌≤◌, ◌⊎◌, inl, inr, Bool, true, false, List, length, Option, Some, None, refl, sym, ap, ◌∙◌, subst, arith}
+use Rattle.std.proofs.Common.{◌≡◌, ℕ, ◌+◌, ◌*◌, ◌/◌, ◌<◌, ◌≤◌, ◌⊎◌, inl, inr, Bool, List, length, Option, Some, sym, ap, ◌∙◌, subst, arith}
 use Rattle.std.specs.Prelude.{slice_get, option_and_then}
 use Rattle.std.proofs.lemmas.Bool.{cases_lt}
 use Rattle.yr_rows.specs.Moves.{move_at}
@@ -9,7 +9,7 @@ use Rattle.yr_ends.specs.declared.carried.Carried.{Carried}
 use Rattle.yr_ends.specs.Carried.{Shown, Holds, Adds}
 use Rattle.yr_ends.specs.Arcs.{Joins, Opens, HasChain, AreChained, head, tail, head_at}
 use Rattle.yr_ends.specs.Spreads.{Grows, Follows, Spreads}
-use Rattle.yr_ends.proofs.ChainLemmas.{Linked, chain_below, chain_next, chain_end}
+use Rattle.yr_ends.proofs.ChainLemmas.{chain_below, chain_next, chain_end}
 use Rattle.yr_ends.proofs.HoldLemmas.{grows_same, grows_trans, grows_has, adds_grows, adds_has, adds_only}
 use Rattle.yr_ends.proofs.JoinLemmas.{arc_joins, joins_arc}
 use Rattle.yr_ends.proofs.ListLemmas.{same_or_not}

@@ -1,11 +1,11 @@
 -- Members of a list of moves with their ends, and how such lists grow.
-use Rattle.std.proofs.Common.{◌≡◌, ℕ, zero, suc, ◌+◌, ◌<◌, ◌≤◌, ◌⊎◌, inl, inr, Bool, true, false, List, [], ◌∷◌, ◌++◌, length, Option, Some, None, refl, sym, ap, ◌∙◌, subst, arith, append_assoc, le_refl, le_trans}
+use Rattle.std.proofs.Common.{◌≡◌, ℕ, zero, suc, ◌+◌, ◌<◌, ◌≤◌, ◌⊎◌, inl, inr, Bool, true, false, List, [], ◌∷◌, ◌++◌, length, Some, None, refl, sym, ap, ◌∙◌, subst, arith, append_assoc, le_refl, le_trans}
 use Rattle.std.specs.Prelude.{slice_get}
 use Rattle.std.proofs.lemmas.List.{append-nil, length-append}
 use Rattle.yr_ends.specs.declared.carried.Carried.{Carried}
 use Rattle.yr_ends.specs.Carried.{Shown, Holds, Adds, IsNoWorse}
 use Rattle.yr_ends.specs.Spreads.{Grows}
-use Rattle.yr_ends.proofs.ListLemmas.{get_front, get_back, get_within}
+use Rattle.yr_ends.proofs.ListLemmas.{get_front, get_within}
 
 pub grows_same : (end : ℕ) (xs : List Carried) → Grows end xs xs
 grows_same end xs = ([], sym (append-nil xs), λ q c e. cc)

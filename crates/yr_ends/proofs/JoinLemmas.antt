@@ -1,14 +1,13 @@
 -- Arcs and the moves that they join.
-use Rattle.std.proofs.Common.{◌≡◌, ℕ, zero, suc, ◌+◌, ◌*◌, ◌/◌, ◌%◌, ◌<◌, ◌≤◌, ◌⊎◌, ◌==◌, inl, inr, Bool, true, false, IsTrue, List, length, Option, Some, None, refl, sym, ap, ◌∙◌, subst, arith}
+use Rattle.std.proofs.Common.{◌≡◌, ℕ, suc, ◌+◌, ◌*◌, ◌/◌, ◌%◌, ◌<◌, ◌⊎◌, ◌==◌, inl, inr, Bool, true, false, List, length, Option, Some, None, sym, ap, ◌∙◌, arith}
 use Rattle.std.specs.Prelude.{slice_get, if◌then◌else◌, option_map}
 use Rattle.std.proofs.lemmas.Option.{option_and_then_some, slice_get_within}
 use Rattle.yr_rows.specs.Moves.{move_at, move_of, NamesAmong, AreWellformedMoves}
-use Rattle.yr_rows.specs.Accepts.{HasByte, holds}
 use Rattle.yr_rows.specs.declared.moves.MoveRow.{MoveRow}
 use Rattle.yr_rows.specs.declared.moves.Move.{Move}
 use Rattle.yr_rows.specs.declared.moves.Move.TheVariants.{Accept, Set, Fork, Test}
 use Rattle.yr_rows.proofs.MoveLemmas.{wellformed_at, wellformed_names}
-use Rattle.yr_ends.specs.Arcs.{Leads, Joins, Stays, Opens, first_way, other_way, way, head, tail, head_at}
+use Rattle.yr_ends.specs.Arcs.{Leads, Joins, Opens, first_way, other_way, way, head, tail}
 use Rattle.yr_ends.specs.Spreads.{bound}
 
 pub move_within : (moves : List MoveRow) (m : ℕ) (v : Move) → move_at moves m ≡ Some v → m < length moves
@@ -126,6 +125,7 @@ way_below n k e v x names w = elim (way_cases (e % 2 == 0) (first_way n v) (othe
     first_below (Set next set) f names = let s : next ≡ x = cc f in omega (arith, s, names.0)
     first_below (Fork next other) f names = let s : next ≡ x = cc f in omega (arith, s, names.0)
     first_below (Test assertion next) f names = let s : next ≡ x = cc f in omega (arith, s, names)
+
     other_below : (v : Move) → other_way v ≡ Some x → NamesAmong n k v → x < n + 1
     other_below Accept f names = cc f
     other_below (Set next set) f names = cc f

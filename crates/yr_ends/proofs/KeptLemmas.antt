@@ -1,5 +1,5 @@
 -- What a list of moves with their ends keeps.
-use Rattle.std.proofs.Common.{◌≡◌, ℕ, zero, suc, ◌+◌, ◌<◌, ◌≤◌, ◌⊎◌, inl, inr, List, [], ◌∷◌, ◌++◌, length, take, Option, Some, None, refl, sym, ap, ◌∙◌, subst, arith, length-set}
+use Rattle.std.proofs.Common.{◌≡◌, ℕ, zero, suc, ◌+◌, ◌<◌, ◌≤◌, inl, inr, List, [], ◌∷◌, ◌++◌, length, take, Option, Some, None, refl, sym, ap, ◌∙◌, subst, arith, length-set}
 use Rattle.std.specs.Prelude.{slice_get, slice_set, replicate}
 use Rattle.std.proofs.Math.Seq.{take-suc-set}
 use Rattle.yr_ends.specs.declared.carried.Carried.{Carried}
@@ -136,9 +136,9 @@ unmarks_more list len k ends c u at =
         | inr other ↦
             let o = u.marked m j (sym (set_other ends m0 m None other) ∙ e) in
             let away : (o.0 ≡ k) → ⊥ = λ s.
-                let same : Some c ≡ Some (record { by = m; end = j }) = sym at ∙ ap (slice_get list) (sym s) ∙ o.3 in
-                let alike : c ≡ record { by = m; end = j } = cc same in
-                other (ap (λ (x : Carried). x.by) alike)
+            let same : Some c ≡ Some (record { by = m; end = j }) = sym at ∙ ap (slice_get list) (sym s) ∙ o.3 in
+            let alike : c ≡ record { by = m; end = j } = cc same in
+            other (ap (λ (x : Carried). x.by) alike)
             in
             (o.0, omega (arith, o.1, away), o.2, o.3)
       ];

@@ -1,8 +1,8 @@
-mod ListLemmas
+pub mod ListLemmas
 mod KeptLemmas
 mod ChainLemmas
-mod HoldLemmas
-mod JoinLemmas
+pub mod HoldLemmas
+pub mod JoinLemmas
 mod FollowLemmas
-mod SpreadLemmas
+pub mod SpreadLemmas
 mod EndLemmas

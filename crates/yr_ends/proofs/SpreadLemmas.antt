@@ -1,15 +1,14 @@
 -- How ends spread at one place, member by member.
 use Rattle.std.proofs.Common.{◌≡◌, ℕ, zero, suc, ◌+◌, ◌<◌, ◌≤◌, ◌⊎◌, inl, inr, Bool, true, false, List, length, Option, Some, None, refl, sym, ap, ◌∙◌, subst, arith}
 use Rattle.std.specs.Prelude.{slice_get}
-use Rattle.std.proofs.lemmas.Bool.{cases_lt}
 use Rattle.yr_rows.specs.Moves.{AreWellformedMoves}
 use Rattle.yr_rows.specs.declared.moves.MoveRow.{MoveRow}
 use Rattle.yr_ends.specs.declared.carried.Carried.{Carried}
-use Rattle.yr_ends.specs.Carried.{Holds, AreBelow, IsNoWorse, Falls}
+use Rattle.yr_ends.specs.Carried.{Holds, AreBelow, Falls}
 use Rattle.yr_ends.specs.Arcs.{Joins, Stays}
 use Rattle.yr_ends.specs.Spreads.{Grows, HasFloor, HoldsAs, Spreads, AreClosed, CameFrom, IsReady, Carries, bound}
 use Rattle.yr_ends.proofs.ListLemmas.{get_within, below_or_last}
-use Rattle.yr_ends.proofs.HoldLemmas.{grows_same, grows_trans, grows_get, grows_has, grows_length, grows_old, grows_cases, no_worse_same, no_worse_trans, no_worse_is}
+use Rattle.yr_ends.proofs.HoldLemmas.{grows_same, grows_trans, grows_get, grows_has, grows_length, grows_old, grows_cases, no_worse_trans, no_worse_is}
 use Rattle.yr_ends.proofs.JoinLemmas.{joins_below}
 
 -- what grows by an end keeps it as a floor

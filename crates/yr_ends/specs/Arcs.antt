@@ -1,5 +1,5 @@
 -- The ways that the moves of a program lead, followed onwards or back, and what is noted of them.
-use Rattle.std.specs.Prelude.{◌≡◌, ℕ, zero, suc, ◌+◌, ◌*◌, ◌/◌, ◌%◌, ◌<◌, ◌≤◌, ◌⊎◌, ◌==◌, Bool, IsTrue, if◌then◌else◌, List, length, Option, Some, None, slice_get, option_map, option_and_then}
+use Rattle.std.specs.Prelude.{◌≡◌, ℕ, zero, suc, ◌+◌, ◌*◌, ◌/◌, ◌%◌, ◌≤◌, ◌⊎◌, ◌==◌, Bool, IsTrue, if◌then◌else◌, List, length, Option, Some, None, slice_get, option_map, option_and_then}
 use Rattle.yr_rows.specs.Moves.{move_at}
 use Rattle.yr_rows.specs.Accepts.{HasByte, holds}
 use Rattle.yr_rows.specs.declared.moves.MoveRow.{MoveRow}

@@ -1,5 +1,5 @@
 -- The walk over the ends that a program has from each place of a file.
-use Rattle.std.specs.Prelude.{◌≡◌, ℕ, zero, suc, ◌+◌, ◌<◌, ◌≤◌, ◌^◌, Bool, IsTrue, List, length, Option, Some, None}
+use Rattle.std.specs.Prelude.{◌≡◌, ℕ, ◌+◌, ◌<◌, ◌≤◌, ◌^◌, Bool, IsTrue, List, length, Option, Some, None}
 use Rattle.std.specs.Option.{MatchOption}
 use Rattle.yr_base.specs.declared.border.Border.{Border}
 use Rattle.yr_base.specs.Places.{has_right_border}

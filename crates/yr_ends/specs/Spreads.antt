@@ -1,5 +1,5 @@
 -- How ends spread from moves to those that they are joined to, at one place.
-use Rattle.std.specs.Prelude.{◌≡◌, ℕ, suc, ◌+◌, ◌<◌, ◌≤◌, ◌⊎◌, Bool, List, ◌++◌, length, Option, Some, None, slice_get, if◌then◌else◌}
+use Rattle.std.specs.Prelude.{◌≡◌, ℕ, suc, ◌<◌, ◌≤◌, ◌⊎◌, Bool, List, ◌++◌, length, Option, Some, None, slice_get, if◌then◌else◌}
 use Rattle.yr_rows.specs.declared.moves.MoveRow.{MoveRow}
 use Rattle.yr_ends.specs.declared.carried.Carried.{Carried}
 use Rattle.yr_ends.specs.Carried.{Holds, IsNoWorse, Falls}

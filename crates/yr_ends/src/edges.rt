@@ -109,6 +109,10 @@ impl Edges {
     pub fn tail(&self, count: u32, e: u32, v: Move) -> Option<u32>
         ensures { result ≡ tail self.now.back count e v }
     {
-        if self.back { Some(e / 2) } else { way(count, e, v) }
+        if self.back {
+            Some(e / 2)
+        } else {
+            way(count, e, v)
+        }
     }
 }

@@ -153,8 +153,30 @@ fn carry_both<L: Ledger>(
     ensures room { list.new.room ≡ list.old.room }
     ensures cost { steps.new ≡ steps.old + length list.new.items }
 {
-    carry(rows, edges, file, i, byte, first, 0, first.len(), list, steps);
-    carry(rows, edges, file, i, byte, second, 0, second.len(), list, steps);
+    carry(
+        rows,
+        edges,
+        file,
+        i,
+        byte,
+        first,
+        0,
+        first.len(),
+        list,
+        steps,
+    );
+    carry(
+        rows,
+        edges,
+        file,
+        i,
+        byte,
+        second,
+        0,
+        second.len(),
+        list,
+        steps,
+    );
 }
 
 impl<'a> EndWalk<'a> {
@@ -262,9 +284,13 @@ impl<'a> EndWalk<'a> {
             None => (),
             Some(b) => {
                 if self.greedy {
-                    carry_both(rows, self.edges, self.file, i, b, beyond, here, onwards, steps);
+                    carry_both(
+                        rows, self.edges, self.file, i, b, beyond, here, onwards, steps,
+                    );
                 } else {
-                    carry_both(rows, self.edges, self.file, i, b, here, beyond, onwards, steps);
+                    carry_both(
+                        rows, self.edges, self.file, i, b, here, beyond, onwards, steps,
+                    );
                 }
             }
         }
@@ -284,8 +310,12 @@ impl<'a> EndWalk<'a> {
         let i = self.place as usize;
         if has_right_border(self.border, self.file, i) {
             let accepted = self.rows.len() as u32;
-            join(&self.rows, self.edges, self.file, i, None, accepted, self.place, here);
-            close(&self.rows, self.edges, self.file, i, 0, self.place, here, steps);
+            join(
+                &self.rows, self.edges, self.file, i, None, accepted, self.place, here,
+            );
+            close(
+                &self.rows, self.edges, self.file, i, 0, self.place, here, steps,
+            );
         }
     }
 }

@@ -5,8 +5,8 @@ mod carried;
 mod edges;
 mod end_walk;
 mod spread;
-
-
+#[cfg(test)]
+mod tests;
 
 pub use carried::{Carried, EndList};
 pub use edges::Edges;

@@ -1,4 +1,4 @@
-use Rattle.std.proofs.Common.{◌<◌, ◌+◌, ℕ, Bool, length, arith, subst}
+use Rattle.std.proofs.Common.{Bool, length, arith, subst}
 use Rattle.yr_moves.specs.Programs.{moves_of}
 use Rattle.yr_ends.specs.Carried.{AreBelow}
 use Rattle.yr_ends.specs.Spreads.{bound}

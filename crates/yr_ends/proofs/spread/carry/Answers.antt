@@ -1,4 +1,4 @@
-use Rattle.std.proofs.Common.{◌≡◌, ◌+◌, ◌-◌, ◌<◌, ◌≤◌, inl, inr, ℕ, Bool, Some, length, refl, sym, ap, ◌∙◌, subst, arith}
+use Rattle.std.proofs.Common.{◌≡◌, inl, inr, ℕ, Bool, Some, length, refl, sym, ◌∙◌, subst, arith}
 use Rattle.yr_moves.specs.Programs.{moves_of, sets_of}
 use Rattle.yr_ends.specs.Spreads.{AreClosed, Carries, HasFloor}
 use Rattle.yr_ends.proofs.HoldLemmas.{grows_cases, grows_length}
@@ -37,16 +37,17 @@ loop-k-preserved g c =
     let mid = c.join.new.list.items in
     let new = c.close.new.list.items in
     let closed : (greatest : Bool) → HasFloor greatest c.get-c.result.end mid → AreClosed back (moves_of rows) (sets_of rows) c.args.file.now c.args.i greatest (length c.loop-k.list.items) mid →
-        AreClosed back (moves_of rows) (sets_of rows) c.args.file.now c.args.i greatest (length new) new =
-        λ greatest floor done.
-            let A : ℕ → Type 0 = λ n. AreClosed back (moves_of rows) (sets_of rows) c.args.file.now c.args.i greatest n mid in
-            c.close.ensures.closed greatest floor (subst A (sym known) done)
-    in
-    (carries_step back (moves_of rows) (sets_of rows) c.args.file.now c.args.i c.args.byte c.args.old.now.items c.args.from c.loop-k.k c.get-c.result c.args.list.now.items c.loop-k.list.items mid new
-     (omega arith) c.get-c.ensures c.loop-k.invariant.0 c.join.ensures.spreads closed c.close.ensures.grows c.close.ensures.came,
-     c.close.ensures.below,
-     c.close.ensures.room ∙ c.join.ensures.room ∙ c.loop-k.invariant.2,
-     omega (arith, c.close.ensures.cost, known, c.loop-k.invariant.3))
+    AreClosed back (moves_of rows) (sets_of rows) c.args.file.now c.args.i greatest (length new) new =
+    λ greatest floor done.
+    let A : ℕ → Type 0 = λ n. AreClosed back (moves_of rows) (sets_of rows) c.args.file.now c.args.i greatest n mid in
+    c.close.ensures.closed greatest floor (subst A (sym known) done)
+    in (
+      carries_step back (moves_of rows) (sets_of rows) c.args.file.now c.args.i c.args.byte c.args.old.now.items c.args.from c.loop-k.k c.get-c.result c.args.list.now.items c.loop-k.list.items mid new
+          (omega arith) c.get-c.ensures c.loop-k.invariant.0 c.join.ensures.spreads closed c.close.ensures.grows c.close.ensures.came,
+      c.close.ensures.below,
+      c.close.ensures.room ∙ c.join.ensures.room ∙ c.loop-k.invariant.2,
+      omega (arith, c.close.ensures.cost, known, c.loop-k.invariant.3),
+    )
 
 pub returns-clause-carries : goal.returns-clause-carries
 returns-clause-carries g c =

@@ -1,4 +1,4 @@
-use Rattle.std.proofs.Common.{◌≡◌, ◌+◌, ◌-◌, ◌<◌, ◌≤◌, length, refl, ◌∙◌, arith}
+use Rattle.std.proofs.Common.{◌+◌, length, refl, ◌∙◌, arith}
 use Rattle.yr_moves.specs.Programs.{moves_of, sets_of}
 use Rattle.yr_ends.proofs.SpreadLemmas.{closing_start, closing_step, closing_end, bound_inside, below_all}
 use Rattle.yr_ends.proofs.spread.close.Goals as goal
@@ -21,11 +21,12 @@ loop-k-smaller g c =
 
 pub loop-k-preserved : goal.loop-k-preserved
 loop-k-preserved g c =
-    let rows = c.args.rows.now in
-    (closing_step c.args.edges.now.back (moves_of rows) (sets_of rows) c.args.file.now c.args.i c.args.end c.args.from c.loop-k.k c.get.result c.args.list.now.items c.loop-k.list.items c.join.new.list.items
-     c.requires.wellformed c.loop-k.invariant.0 c.get.ensures c.join.ensures.spreads,
-     c.join.ensures.room ∙ c.loop-k.invariant.1,
-     omega (arith, c.loop-k.invariant.2, c.tick.ensures))
+    let rows = c.args.rows.now in (
+      closing_step c.args.edges.now.back (moves_of rows) (sets_of rows) c.args.file.now c.args.i c.args.end c.args.from c.loop-k.k c.get.result c.args.list.now.items c.loop-k.list.items c.join.new.list.items
+          c.requires.wellformed c.loop-k.invariant.0 c.get.ensures c.join.ensures.spreads,
+      c.join.ensures.room ∙ c.loop-k.invariant.1,
+      omega (arith, c.loop-k.invariant.2, c.tick.ensures),
+    )
 
 pub returns-clause-closed : goal.returns-clause-closed
 returns-clause-closed g c = λ greatest floor closed.

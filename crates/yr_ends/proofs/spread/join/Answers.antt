@@ -1,4 +1,4 @@
-use Rattle.std.proofs.Common.{◌≡◌, ◌+◌, ◌-◌, ◌*◌, ◌/◌, ◌<◌, ◌≤◌, length, refl, ◌∙◌, arith}
+use Rattle.std.proofs.Common.{◌-◌, refl, ◌∙◌, arith}
 use Rattle.yr_moves.specs.Programs.{moves_of, sets_of}
 use Rattle.yr_ends.proofs.FollowLemmas.{following_start, following_arc, following_falls, following_step, following_end}
 use Rattle.yr_ends.proofs.spread.join.Goals as goal
@@ -6,9 +6,11 @@ use Rattle.yr_ends.proofs.spread.join.Goals as goal
 pub loop-link-init : goal.loop-link-init
 loop-link-init c =
     let rows = c.args.rows.now in
-    let edges = c.args.edges.now in
-    (following_start edges.back (moves_of rows) (sets_of rows) c.args.file.now c.args.i c.args.byte c.args.x c.args.end edges.after.items edges.first.items c.first-link.result c.args.list.now.items
-     c.requires.edges.1 c.requires.inside c.first-link.ensures, refl)
+    let edges = c.args.edges.now in (
+      following_start edges.back (moves_of rows) (sets_of rows) c.args.file.now c.args.i c.args.byte c.args.x c.args.end edges.after.items edges.first.items c.first-link.result c.args.list.now.items
+          c.requires.edges.1 c.requires.inside c.first-link.ensures,
+      refl,
+    )
 
 pub move_at-v-requires-clause-inside : goal.move_at-v-requires-clause-inside
 move_at-v-requires-clause-inside c =
@@ -49,10 +51,11 @@ pub loop-link-preserved : goal.loop-link-preserved
 loop-link-preserved c =
     let rows = c.args.rows.now in
     let edges = c.args.edges.now in
-    let l = c.loop-link.link in
-    (following_step edges.back (moves_of rows) (sets_of rows) c.args.file.now c.args.i c.args.byte c.args.x c.args.end edges.after.items l (l - 1) c.after-link.result c.move_at-v.result c.args.list.now.items
-     c.loop-link.list.items c.follow.new.list.items c.loop-link.invariant.0 (omega (arith, c.loop-link-test.true)) c.after-link.ensures c.move_at-v.ensures.is c.follow.ensures.follows,
-     c.follow.ensures.room ∙ c.loop-link.invariant.1)
+    let l = c.loop-link.link in (
+      following_step edges.back (moves_of rows) (sets_of rows) c.args.file.now c.args.i c.args.byte c.args.x c.args.end edges.after.items l (l - 1) c.after-link.result c.move_at-v.result c.args.list.now.items
+          c.loop-link.list.items c.follow.new.list.items c.loop-link.invariant.0 (omega (arith, c.loop-link-test.true)) c.after-link.ensures c.move_at-v.ensures.is c.follow.ensures.follows,
+      c.follow.ensures.room ∙ c.loop-link.invariant.1,
+    )
 
 pub returns-clause-spreads : goal.returns-clause-spreads
 returns-clause-spreads c =

@@ -1,8 +1,8 @@
-use Rattle.std.proofs.Common.{◌≡◌, ◌+◌, ◌*◌, ◌≤◌, ◌<◌, ◌/◌, ℕ, List, length, Some, None, refl, sym, ap, ◌∙◌, subst, arith, Vec, Global}
+use Rattle.std.proofs.Common.{◌≡◌, ◌+◌, ◌*◌, ◌≤◌, ◌<◌, ℕ, List, length, Some, None, refl, sym, ap, ◌∙◌, subst, arith, Vec, Global}
 use Rattle.std.specs.Prelude.{option_and_then, slice_set}
 use Rattle.yr_moves.specs.Programs.{moves_of, sets_of}
 use Rattle.yr_ends.specs.Arcs.{AreChained, head, head_at}
-use Rattle.yr_ends.proofs.ChainLemmas.{chained_start, chained_add, chained_pass}
+use Rattle.yr_ends.proofs.ChainLemmas.{chained_add, chained_pass}
 use Rattle.yr_ends.proofs.JoinLemmas.{head_below}
 use Rattle.yr_ends.proofs.edges.Edges.of.Goals as goal
 use Rattle.yr_ends.proofs.edges.Edges.of.Goals.{in-Some, in-None}

@@ -1,4 +1,4 @@
-use Rattle.std.proofs.Common.{◌≡◌, ◌+◌, ◌<◌, ◌≤◌, ℕ, Bool, true, false, List, [], None, Some, length, refl, sym, ap, ◌∙◌, subst, arith}
+use Rattle.std.proofs.Common.{◌≡◌, ◌+◌, ◌<◌, ◌≤◌, Some, length, sym, ◌∙◌, subst}
 use Rattle.std.specs.Prelude.{slice_get}
 use Rattle.std.proofs.lemmas.Option.{slice_get_within}
 use Rattle.yr_rows.specs.Moves.{AreWellformedMoves}
@@ -39,7 +39,7 @@ returns-then-self-clause-beyond g c =
     let r = c.carry_both.ensures.carries in
     subst H c.self.view_is
     (brought_greedy w w.place c.in-Some.b at c.args.beyond.now.items c.args.here.now.items c.clear.new.self.items r.0 c.carry_both.new.list.items c.clear.ensures.items
-     (subst F (sym c.self.view_is) c.requires.beyond lt) (subst N (sym c.self.view_is) c.requires.here lt) c.if-self.true r.1 r.2)
+    (subst F (sym c.self.view_is) c.requires.beyond lt) (subst N (sym c.self.view_is) c.requires.here lt) c.if-self.true r.1 r.2)
 
 pub returns-then-self-clause-below : goal.returns-then-self-clause-below
 returns-then-self-clause-below g c =
@@ -64,7 +64,7 @@ returns-else-self-clause-beyond g c =
     let r = c.carry_both-else-self.ensures.carries in
     subst H c.self.view_is
     (brought_least w w.place c.in-Some.b at c.args.beyond.now.items c.args.here.now.items c.clear.new.self.items r.0 c.carry_both-else-self.new.list.items c.clear.ensures.items
-     (subst F (sym c.self.view_is) c.requires.beyond lt) (subst N (sym c.self.view_is) c.requires.here lt) c.if-self.false r.1 r.2)
+    (subst F (sym c.self.view_is) c.requires.beyond lt) (subst N (sym c.self.view_is) c.requires.here lt) c.if-self.false r.1 r.2)
 
 pub returns-else-self-clause-below : goal.returns-else-self-clause-below
 returns-else-self-clause-below g c =

@@ -1,7 +1,6 @@
-use Rattle.std.proofs.Common.{◌≡◌, ◌+◌, ◌-◌, ◌<◌, ◌≤◌, ℕ, Option, Some, length, refl, sym, ap, ◌∙◌, subst, arith}
-use Rattle.std.specs.Prelude.{◌↔◌}
+use Rattle.std.proofs.Common.{◌≡◌, ◌+◌, ◌-◌, ◌<◌, ℕ, length, sym, ap, subst, arith}
 use Rattle.yr_rows.specs.Moves.{AreWellformedMoves}
-use Rattle.yr_ends.specs.Carried.{Shown, Holds, AreBelow}
+use Rattle.yr_ends.specs.Carried.{Shown, AreBelow}
 use Rattle.yr_ends.specs.EndWalks.{Walk, Kept, AreBeyond, AreHere, HasRoom, IsBestEnd}
 use Rattle.yr_ends.proofs.EndLemmas.{best_here, best_beyond, moved_beyond, moved_here, midway_next}
 use Rattle.yr_ends.proofs.end_walk.EndWalk.fall.Goals as goal
@@ -22,18 +21,18 @@ bring-requires-clause-beyond g c =
     let w = c.args.self.now in
     let B : Walk → Type 0 = λ x. x.place < length x.file → AreBeyond x (x.place + 1) c.args.beyond.now.items in
     subst B (sym c.step_down.ensures) (λ lt.
-        let same : w.place ≡ w.place - 1 + 1 = omega (arith, c.requires.more) in
-        let P : ℕ → Type 0 = λ p. AreBeyond w p c.args.beyond.now.items in
-        moved_beyond w (w.place - 1) (w.place - 1 + 1) c.args.beyond.now.items (subst P same (c.requires.midway.beyond (omega (arith, lt, c.requires.more)))))
+    let same : w.place ≡ w.place - 1 + 1 = omega (arith, c.requires.more) in
+    let P : ℕ → Type 0 = λ p. AreBeyond w p c.args.beyond.now.items in
+    moved_beyond w (w.place - 1) (w.place - 1 + 1) c.args.beyond.now.items (subst P same (c.requires.midway.beyond (omega (arith, lt, c.requires.more)))))
 
 pub bring-requires-clause-here : goal.bring-requires-clause-here
 bring-requires-clause-here g c =
     let w = c.args.self.now in
     let B : Walk → Type 0 = λ x. x.place < length x.file → AreHere x (x.place + 1) c.args.here.now.items in
     subst B (sym c.step_down.ensures) (λ lt.
-        let same : w.place ≡ w.place - 1 + 1 = omega (arith, c.requires.more) in
-        let P : ℕ → Type 0 = λ p. AreHere w p c.args.here.now.items in
-        moved_here w (w.place - 1) (w.place - 1 + 1) c.args.here.now.items (subst P same (c.requires.midway.here (omega (arith, lt, c.requires.more)))))
+    let same : w.place ≡ w.place - 1 + 1 = omega (arith, c.requires.more) in
+    let P : ℕ → Type 0 = λ p. AreHere w p c.args.here.now.items in
+    moved_here w (w.place - 1) (w.place - 1 + 1) c.args.here.now.items (subst P same (c.requires.midway.here (omega (arith, lt, c.requires.more)))))
 
 pub returns-clause-end : goal.returns-clause-end
 returns-clause-end g c =
@@ -41,7 +40,7 @@ returns-clause-end g c =
     let F : Shown → Type 0 = λ s. AreBeyond w w.place s.items in
     let far = subst F (sym c.swap.ensures.x_after) c.bring.ensures.beyond in
     let best : IsBestEnd w w.place w.place c.better.result =
-        best_here w w.place c.swap.new.x.items c.look.new.here.items far c.look.ensures.here c.end-behind.result c.end.result c.end-behind.ensures c.end.ensures c.better.result c.better.ensures
+    best_here w w.place c.swap.new.x.items c.look.new.here.items far c.look.ensures.here c.end-behind.result c.end.result c.end-behind.ensures c.end.ensures c.better.result c.better.ensures
     in
     let I : Walk → Type 0 = λ x. IsBestEnd x w.place w.place c.better.result in subst I c.step_down.ensures best
 
@@ -51,7 +50,7 @@ returns-clause-beyond g c =
     let F : Shown → Type 0 = λ s. AreBeyond w w.place s.items in
     let far = subst F (sym c.swap.ensures.x_after) c.bring.ensures.beyond in
     let best : IsBestEnd w w.place (w.place + 1) c.end-behind.result =
-        best_beyond w w.place c.swap.new.x.items c.look.new.here.items far c.look.ensures.here c.end-behind.result c.end.result c.end-behind.ensures c.end.ensures
+    best_beyond w w.place c.swap.new.x.items c.look.new.here.items far c.look.ensures.here c.end-behind.result c.end.result c.end-behind.ensures c.end.ensures
     in
     let I : Walk → Type 0 = λ x. IsBestEnd x w.place (w.place + 1) c.end-behind.result in subst I c.step_down.ensures best
 

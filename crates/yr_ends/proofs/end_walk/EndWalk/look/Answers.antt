@@ -1,15 +1,14 @@
-use Rattle.std.proofs.Common.{◌≡◌, ◌+◌, ◌<◌, ℕ, Bool, true, false, IsTrue, List, [], None, length, refl, sym, ap, ◌∙◌, subst, arith, true≢false}
+use Rattle.std.proofs.Common.{◌≡◌, ℕ, Bool, true, IsTrue, None, length, sym, ◌∙◌, subst, arith}
 use Rattle.yr_base.specs.Places.{has_right_border}
 use Rattle.yr_rows.specs.Moves.{AreWellformedMoves}
 use Rattle.yr_moves.specs.Programs.{moves_of, sets_of}
 use Rattle.yr_ends.specs.declared.end_walk.EndWalk.TheInside.{Inside}
-use Rattle.yr_ends.specs.declared.carried.Carried.{Carried}
 use Rattle.yr_ends.specs.Carried.{AreBelow}
 use Rattle.yr_ends.specs.Spreads.{AreClosed, CameFrom, Spreads, HasFloor, bound}
 use Rattle.yr_ends.specs.EndWalks.{Walk, AreHere}
-use Rattle.yr_ends.proofs.HoldLemmas.{nothing_held, grows_cases}
+use Rattle.yr_ends.proofs.HoldLemmas.{nothing_held}
 use Rattle.yr_ends.proofs.SpreadLemmas.{carried_below}
-use Rattle.yr_ends.proofs.EndLemmas.{looked, nothing_here, joined_floor}
+use Rattle.yr_ends.proofs.EndLemmas.{looked, joined_floor}
 use Rattle.yr_ends.proofs.end_walk.EndWalk.look.Goals as goal
 
 -- what a walk's fields show
