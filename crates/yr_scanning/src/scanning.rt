@@ -87,12 +87,5 @@ pub fn scan_file<'i, 'f, 'v>(
     ensures { IfOk result (λ scan. IsScan (bytes_of image.now) file.now (map shown externals.now) scan.matches.lists scan.matches.hits (truths_shown scan.truths.items)) }
 {
     let modules = modules_of(file);
-    scan_counted::<FileModules<'_>, Brand>(
-        alloc,
-        Blank::new(1),
-        image,
-        file,
-        externals,
-        &modules,
-    )
+    scan_counted::<FileModules<'_>, Brand>(alloc, Blank::new(1), image, file, externals, &modules)
 }
