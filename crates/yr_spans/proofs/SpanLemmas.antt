@@ -1,6 +1,7 @@
 -- Spans by the starts of one side and the ends of the other.
 use Rattle.std.proofs.Common.{◌≡◌, ℕ, zero, suc, ◌+◌, ◌-◌, ◌<◌, ◌≤◌, ◌⊎◌, ◌==◌, inl, inr, Bool, true, false, IsTrue, List, [], ◌∷◌, length, Option, Some, None, refl, sym, ap, ◌∙◌, subst, arith, true≢false}
 use Rattle.std.specs.Prelude.{slice_get, if◌then◌else◌}
+use Rattle.std.proofs.lemmas.Bool.Decides.{nat_tests}
 use Rattle.yr_base.specs.Places.{has_left_border}
 use Rattle.yr_moves.specs.Walks.{IsBest, IsEnd}
 use Rattle.yr_ends.specs.Carried.{IsNoWorse}
@@ -10,6 +11,13 @@ use Rattle.yr_spans.specs.StartWalks as starts
 use Rattle.yr_spans.specs.StartWalks.{Told, Tells, IsBestOf, StartsAt, StartsBelow, StartsHere}
 use Rattle.yr_spans.specs.Spans.{Walk, IsEndOf, IsSpan, IsAmong, IsCounted, AreTold}
 use Rattle.yr_spans.proofs.StartLemmas.{tells_more, tells_cases}
+
+is_zero : (n : ℕ) → (n == 0) ≡ true → n ≡ 0
+is_zero n e = grind (arith, nat_tests)
+
+not_zero : (n : ℕ) → (n == 0) ≡ false → 0 < n
+not_zero zero e = absurd (true≢false e)
+not_zero (suc n) e = omega arith
 
 -- the best of one property is the best of another that it stands for
 pub best_of_both : (greedy : Bool) (P Q : ℕ → Type 0) (r : Option ℕ) → IsBestOf greedy P r → ((j : ℕ) → P j → Q j) → ((j : ℕ) → Q j → (o : ℕ) × P o × IsNoWorse greedy o j) → IsBestOf greedy Q r
@@ -85,28 +93,28 @@ module _ (walk : Walk) (i : ℕ) (hit : Bool) (near beyond near' far' : Option �
   near_complete j t h = let f = near_found j (to_end j h) in (f.0, near_is ∙ ap (λ b. if b then near else None) t ∙ f.1)
 
   -- what is told for a span that reads none
-  abbrev FarOf : ℕ → Option ℕ
-  FarOf n = if (n == 0) then beyond else near
+  abbrev FarOf : Bool → Option ℕ
+  FarOf b = if b then beyond else near
 
   pub far_sound : (j : ℕ) → far' ≡ Some j → (hit ≡ true) × IsEndOf walk i j × (i < j)
   far_sound j is = of hit refl
     where
-      at : (n : ℕ) → walk.atom ≡ n → FarOf n ≡ Some j → IsEndOf walk i j × (i < j)
-      at zero s there =
+      at : (b : Bool) → (walk.atom == 0) ≡ b → FarOf b ≡ Some j → IsEndOf walk i j × (i < j)
+      at true s there =
           let b = (behind_some j there).0 in (of_end j (b.0, omega (arith, b.1), b.2), omega (arith, b.1, level))
-      at (suc n) s there = let b = (best_some j there).0 in (of_end j b, omega (arith, b.1, level, s))
+      at false s there = let b = (best_some j there).0 in (of_end j b, omega (arith, b.1, level, not_zero walk.atom s))
       of : (h : Bool) → hit ≡ h → (hit ≡ true) × IsEndOf walk i j × (i < j)
       of true t =
-          let there : FarOf walk.atom ≡ Some j = sym (far_is ∙ ap (λ b. if b then FarOf walk.atom else None) t) ∙ is in
-          let r = at walk.atom refl there in (t, r.0, r.1)
-      of false f = let wrong : None ≡ Some j = sym (far_is ∙ ap (λ b. if b then FarOf walk.atom else None) f) ∙ is in cc wrong
+          let there : FarOf (walk.atom == 0) ≡ Some j = sym (far_is ∙ ap (λ b. if b then FarOf (walk.atom == 0) else None) t) ∙ is in
+          let r = at (walk.atom == 0) refl there in (t, r.0, r.1)
+      of false f = let wrong : None ≡ Some j = sym (far_is ∙ ap (λ b. if b then FarOf (walk.atom == 0) else None) f) ∙ is in cc wrong
 
   pub far_complete : (j : ℕ) → hit ≡ true → IsEndOf walk i j → i < j → (o : ℕ) × (far' ≡ Some o) × IsNoWorse walk.ends.greedy o j
-  far_complete j t h lt = let r = at walk.atom refl in (r.0, far_is ∙ ap (λ b. if b then FarOf walk.atom else None) t ∙ r.1, r.2)
+  far_complete j t h lt = let r = at (walk.atom == 0) refl in (r.0, far_is ∙ ap (λ b. if b then FarOf (walk.atom == 0) else None) t ∙ r.1, r.2)
     where
-      at : (n : ℕ) → walk.atom ≡ n → (o : ℕ) × (FarOf n ≡ Some o) × IsNoWorse walk.ends.greedy o j
-      at zero s = let u = to_end j h in beyond_found j (u.0, omega (arith, level, s, lt), u.2)
-      at (suc n) s = near_found j (to_end j h)
+      at : (b : Bool) → (walk.atom == 0) ≡ b → (o : ℕ) × (FarOf b ≡ Some o) × IsNoWorse walk.ends.greedy o j
+      at true s = let u = to_end j h in beyond_found j (u.0, omega (arith, level, is_zero walk.atom s, lt), u.2)
+      at false s = near_found j (to_end j h)
 
   -- where an end is told for the one, an end is told for the other
   pub far_near : (j : ℕ) → far' ≡ Some j → (o : ℕ) × (near' ≡ Some o)
@@ -165,3 +173,10 @@ module _ (walk : Walk) (i : ℕ) (hit : Bool) (near beyond near' far' : Option �
 
     pub still_inside : (a : ℕ) → IsAmong Hits a → i ≤ a
     still_inside a h = elim (among_more hit i hits a h) [ inl new ↦ omega (arith, new.1) | inr was ↦ let lt = above a was in omega (arith, lt) ]
+
+-- what was told does not look at the walks' own places
+pub moved_told : (walk : Walk) (p : ℕ) (next : ends.Walk) (other : starts.Walk) (told : List Told) (hits : List ℕ) → next ≡ record walk.ends { place = p } → AreTold walk told hits →
+    AreTold (record { ends = next; starts = other; atom = walk.atom }) told hits
+moved_told walk p next other told hits is are =
+    let A : ends.Walk → Type 0 = λ x. AreTold (record { ends = x; starts = other; atom = walk.atom }) told hits in
+    subst A (sym is) (record { sound = are.sound; complete = are.complete })

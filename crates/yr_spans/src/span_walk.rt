@@ -1,6 +1,6 @@
 //! The best end of a span of one split from each place of a file.
 
-ghost use Rattle.std.specs.Prelude.{◌≡◌, ℕ, ◌+◌, ◌-◌, ◌*◌, ◌<◌, ◌≤◌, ◌^◌, ◌∷◌, [], List, Option, Some, None, Bool, length, IfOk, true, false, if◌then◌else◌};
+ghost use Rattle.std.specs.Prelude.{◌≡◌, ℕ, ◌+◌, ◌-◌, ◌*◌, ◌<◌, ◌≤◌, ◌^◌, ◌∷◌, [], List, Option, Some, None, Bool, length, IfOk, true, false, ◌==◌, if◌then◌else◌};
 ghost use Rattle.yr_moves.specs.Programs.{moves_of, sets_of, IsWellformed};
 ghost use Rattle.yr_ends.specs.Arcs.{AreEdges};
 ghost use Rattle.yr_ends.specs.EndWalks as ends;
@@ -88,8 +88,8 @@ pub fn spans<'a>(
     requires after { IsWellformed after.rows × AreEdges true (moves_of after.rows) after.edges.now }
     requires small { length file.now ≤ 2 ^ 28 }
     requires room { ends.HasRoom (length (moves_of after.rows) + 1) marks.old.ends × starts.HasRoom (length (moves_of before.rows) + 1) marks.old.starts }
-    ensures ends { result.ends ≡ record { moves = moves_of after.rows; sets = sets_of after.rows; file = file.now; greedy = greedy; border = border; place = length file.now + 1 } }
-    ensures starts { result.starts ≡ record { moves = moves_of before.rows; sets = sets_of before.rows; file = file.now; greedy = greedy; place = length file.now + 1 - atom } }
+    ensures ends { result.ends ≡ record { moves = moves_of after.entry.rows; sets = sets_of after.entry.rows; file = file.now; greedy = greedy; border = border; place = length file.now + 1 } }
+    ensures starts { result.starts ≡ record { moves = moves_of before.entry.rows; sets = sets_of before.entry.rows; file = file.now; greedy = greedy; place = length file.now + 1 - atom } }
     ensures atom { result.atom ≡ atom }
     ensures ready { IsReadyFor result marks.new }
     ensures midway { IsMidway result [] marks.new }
