@@ -1,6 +1,5 @@
 -- What the code keeps round a rule is what the definitions say.
-use Rattle.std.proofs.Common.{◌≡◌, ℕ, List, length, map, refl, sym, ap, ◌∙◌}
-use Rattle.std.specs.Prelude.{Option}
+use Rattle.std.proofs.Common.{◌≡◌, ℕ, List, length, map, sym, ap, ◌∙◌}
 use Rattle.yr_numbered.specs.Names.{Name}
 use Rattle.yr_rules.specs.Rules.{external_of}
 use Rattle.yr_uses.specs.Meanings.{Around, EarlierRule}
@@ -10,7 +9,7 @@ use Rattle.yr_values.specs.Names.{module_shown}
 use Rattle.yr_resolving.specs.declared.at_hand.AtHand.{AtHand}
 use Rattle.yr_resolving.specs.AtHand.{IsAtHand, given_at, placed_at}
 use Rattle.yr_types.specs.Given.{around, earlier_rule, rule_names, string_names}
-use Rattle.yr_types.specs.Sources.{earlier, first_string_of, imports, number_of}
+use Rattle.yr_types.specs.Sources.{earlier, first_string_of, imports}
 use Rattle.yr_resolving.proofs.StageLemmas.{same-long, two-lists}
 
 module _ (at : AtHand) (h : IsAtHand at) where

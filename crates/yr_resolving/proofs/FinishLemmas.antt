@@ -1,6 +1,6 @@
 -- What stands at the end of the walk.
-use Rattle.std.proofs.Common.{◌≡◌, ℕ, ◌+◌, ◌-◌, ◌^◌, ◌≤◌, ◌<◌, List, [], ◌∷◌, length, map, min, Bool, true, false, refl, sym, ap, subst, ◌∙◌, arith, Some, None, Option, Result, Ok, Err}
-use Rattle.std.specs.Prelude.{nat_lt, if◌then◌else◌, All, Contains, IfOk}
+use Rattle.std.proofs.Common.{◌≡◌, ℕ, ◌-◌, ◌^◌, ◌≤◌, ◌<◌, List, [], length, map, min, Bool, true, false, sym, ap, subst, ◌∙◌, arith, Result, Ok, Err}
+use Rattle.std.specs.Prelude.{nat_lt, IfOk}
 use Rattle.std.specs.Option.{option_map}
 use Rattle.std.proofs.lemmas.List.{length-map}
 use Rattle.yr_base.specs.Gives.{Gives, Refuses}
@@ -13,7 +13,7 @@ use Rattle.yr_types.specs.Sources.{AtEnd, UnitTree, items_of}
 use Rattle.yr_types.specs.Given.{Given, finding, where_true}
 use Rattle.yr_types.specs.Checked.{checked_rules}
 use Rattle.yr_types.specs.Checks.{is_heavy}
-use Rattle.yr_types.specs.Refusals.{PlainRefusal, IsPassed, answer, at_end, first_fault, resolved}
+use Rattle.yr_types.specs.Refusals.{IsPassed, answer, at_end, first_fault, resolved}
 use Rattle.yr_types.specs.Resolving.{AreExternals, AreUnits, HaveRowIds, refusal_in}
 use Rattle.yr_types.specs.declared.refusal.ResolveFault.{ResolveFault}
 use Rattle.yr_types.specs.declared.refusal.ResolveFault.TheVariants as fault

@@ -1,26 +1,24 @@
 -- Rules at which no check fails are wellformed.
 use Rattle.std.proofs.Common.{◌≡◌, ℕ, zero, suc, ◌+◌, ◌-◌, ◌≤◌, ◌<◌, List, [], ◌∷◌, ◌++◌, length, map, filter, take, Bool, true, false, refl, sym, ap, subst, ◌∙◌, arith, Some, None, Option, Result, Ok, Err, append-nil, append_assoc}
-use Rattle.std.specs.Prelude.{All, slice_get, is_some, is_none, not, ◌||◌, nat_lt, if◌then◌else◌, Contains}
+use Rattle.std.specs.Prelude.{All, slice_get, is_some, not, ◌||◌, nat_lt, if◌then◌else◌, Contains}
 use Rattle.std.specs.List.{flat_map, list_any, slice_index_or}
-use Rattle.std.specs.Option.{option_map, option_or, option_and_then}
+use Rattle.std.specs.Option.{option_map}
 use Rattle.std.proofs.Math.Seq.{take-append_seam}
-use Rattle.std.proofs.lemmas.List.{length-map, length-append}
+use Rattle.std.proofs.lemmas.List.{length-map}
 use Rattle.std.proofs.lemmas.Grind.{flat_map-append}
-use Rattle.std.proofs.lemmas.List.Elements.{All-nil, All-cons, All-append, All-map}
-use Rattle.std.proofs.lemmas.Option.{slice_get_within}
-use Rattle.yr_pattern.specs.Variants.{PlainVariant, Literal, Shape, IsSoundBody, variant_size}
+use Rattle.std.proofs.lemmas.List.Elements.{All-nil, All-cons, All-append}
+use Rattle.yr_pattern.specs.Variants.{PlainVariant, IsSoundBody, variant_size}
 use Rattle.yr_syntax.specs.Declaration.{RuleTree, StringTree, BodyTree, MetaTree, declaration_of}
 use Rattle.yr_syntax.specs.Declaration as declaration
-use Rattle.yr_syntax.specs.Forms.{Each, HaveForms, DeclarationHasForms, RuleHasForms, StringHasForms, MetaHasForms, IsWordName, IsName, height_limit}
+use Rattle.yr_syntax.specs.Forms.{Each, HaveForms, DeclarationHasForms, RuleHasForms, StringHasForms, IsWordName, height_limit}
 use Rattle.yr_text.specs.Variants.{IsSound}
 use Rattle.yr_text.proofs.SoundLemmas.{variants-sound}
 use Rattle.yr_rules.specs.Fits.{Fits, size_limit}
 use Rattle.yr_rules.specs.Height.{height}
 use Rattle.yr_rules.specs.Ids.{HasIds}
-use Rattle.yr_rules.specs.Kinds.{kind_of}
-use Rattle.yr_rules.specs.Rules.{PlainExternal, PlainString, PlainRule, PlainRules}
-use Rattle.yr_rules.specs.Weight.{total, weight_of, weight_limit}
-use Rattle.yr_rules.specs.Wellformed.{IsShortWord, IsGoodVariant, IsGoodString, IsGoodRule, HasItsStrings, IsWellformed, AreDifferent, count_different, count_limit, space_limit}
+use Rattle.yr_rules.specs.Rules.{PlainString, PlainRule, PlainRules}
+use Rattle.yr_rules.specs.Weight.{total}
+use Rattle.yr_rules.specs.Wellformed.{IsShortWord, IsGoodVariant, IsGoodString, IsGoodRule, HasItsStrings, IsWellformed, count_different, count_limit}
 use Rattle.yr_numbered.specs.Names.{Name, first, with_sign}
 use Rattle.yr_nodes.specs.Readers.{Readers, Expression, HexRefusal, RegexRefusal, string_variants, body_variants, hex_variants, regex_variants, plain_shape, wide_shape, modifiers_of, string_expression}
 use Rattle.yr_text.specs.declared.modifiers.Modifiers.{Modifiers}
@@ -28,15 +26,14 @@ use Rattle.yr_types.specs.declared.check.Check.{Check}
 use Rattle.yr_types.specs.declared.check.Check.TheVariants as check
 use Rattle.yr_types.specs.declared.refusal.Code.TheVariants as code'
 use Rattle.yr_types.specs.Sources.{Item, Import, Rule, PlacedImport, PlacedRule, AtRule, UnitTree, item_of, items_from, items_of, rules_in, placed_after, number_of, first_string_of, strings_in, imports}
-use Rattle.yr_types.specs.Given.{Given, Finding, finding, naming, name_if, around, is_imported, rule_node, rule_uses}
+use Rattle.yr_types.specs.Given.{Given, naming, name_if, around, is_imported, rule_uses}
 use Rattle.yr_types.specs.Checks.{rule_finding}
 use Rattle.yr_types.specs.Checked.{checked_rule, checked_rules, checked_string, checked_strings, with_node, present}
-use Rattle.yr_types.specs.Fitting.{IsSoundRule}
 use Rattle.yr_types.specs.Patterns.{empty_string, is_empty_text, is_large, large_string, large_use}
 use Rattle.yr_types.specs.Refusals.{fault, at_rule, IsPassed}
 use Rattle.yr_types.specs.Resolving.{AreUnits, AreExternals, HaveRowIds, IsUnit, row_ids}
 use Rattle.yr_types.proofs.IdLemmas.{made-has}
-use Rattle.yr_types.proofs.PassLemmas.{each-from, each-none, each-false, map-none, number-is, or-none, rules-append, sound-rule, light-rules, strings-counted, total-append, place-there}
+use Rattle.yr_types.proofs.PassLemmas.{each-from, each-none, each-false, map-none, number-is, or-none, rules-append, sound-rule, light-rules, strings-counted, place-there}
 use Rattle.yr_findings.specs.declared.items.Placed.{Placed}
 use Rattle.yr_findings.specs.Placed.{item_at}
 use Rattle.yr_resolving.proofs.SpreadLemmas.{different-spaces}

@@ -1,18 +1,17 @@
 -- The checks on a rule, stage by stage.
-use Rattle.std.proofs.Common.{◌≡◌, ℕ, ◌+◌, ◌-◌, ◌^◌, ◌≤◌, ◌<◌, List, [], ◌∷◌, length, map, min, drop, Bool, true, false, refl, sym, ap, subst, ◌∙◌, arith, Some, None, Option, Result, Ok, Err}
+use Rattle.std.proofs.Common.{◌≡◌, ℕ, ◌+◌, ◌≤◌, ◌<◌, List, [], ◌∷◌, length, min, drop, Bool, true, false, sym, ap, subst, ◌∙◌, arith, Some, None, Option, Result, Ok, Err}
 use Rattle.std.specs.Prelude.{nat_le, ◌&&◌, is_some, OnOk, IfErr}
-use Rattle.std.specs.Option.{option_map, option_or, option_and_then}
+use Rattle.std.specs.Option.{option_or, option_and_then}
 use Rattle.yr_numbered.specs.Names.{first}
 use Rattle.yr_rules.specs.Kinds.{kind_of}
 use Rattle.yr_rules.specs.NodeTree.{NodeTree}
 use Rattle.yr_syntax.specs.Forms.{Each, StringHasForms}
-use Rattle.yr_nodes.specs.Nodes.{node_of}
 use Rattle.yr_nodes.specs.Shapes.{shape_of}
 use Rattle.yr_types.specs.declared.check.Check.{Check}
 use Rattle.yr_types.specs.declared.check.Check.TheVariants as check
 use Rattle.yr_types.specs.declared.refusal.Code.TheVariants as code
 use Rattle.yr_types.specs.declared.refusal.ResolveFault.{ResolveFault}
-use Rattle.yr_types.specs.Sources.{PlacedRule, first_string_of, number_of}
+use Rattle.yr_types.specs.Sources.{PlacedRule, first_string_of}
 use Rattle.yr_types.specs.Given.{Given, around, finding, rule_node}
 use Rattle.yr_types.specs.Patterns.{bad_modifiers, empty_string}
 use Rattle.yr_types.specs.Refusals.{PlainRefusal, at_rule, checks}

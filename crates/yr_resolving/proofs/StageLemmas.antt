@@ -1,28 +1,22 @@
 -- What the code says of one rule, by the definitions.
-use Rattle.std.proofs.Common.{◌≡◌, ℕ, zero, suc, ◌+◌, ◌-◌, ◌*◌, ◌^◌, ◌≤◌, ◌<◌, List, [], ◌∷◌, ◌++◌, length, map, min, drop, Bool, true, false, refl, sym, ap, subst, ◌∙◌, arith, Some, None, Option}
-use Rattle.std.specs.Prelude.{nat_lt, nat_le, not, ◌||◌, ◌&&◌, is_none, is_some, if◌then◌else◌}
-use Rattle.std.specs.Option.{option_map, option_or, option_and_then}
-use Rattle.std.proofs.lemmas.List.{length-map}
-use Rattle.std.proofs.lemmas.Bool.Decides.{nat_tests}
-use Rattle.yr_base.specs.declared.value.Kind.{Kind}
-use Rattle.yr_rules.specs.NodeTree.{NodeTree}
+use Rattle.std.proofs.Common.{◌≡◌, ℕ, ◌+◌, ◌-◌, ◌*◌, ◌^◌, ◌≤◌, ◌<◌, List, [], ◌∷◌, length, map, min, drop, true, false, refl, ap, arith, Some, None, Option}
+use Rattle.std.specs.Prelude.{nat_lt, is_none, is_some}
+use Rattle.std.specs.Option.{option_map, option_and_then}
 use Rattle.yr_rules.specs.Kinds.{kind_of}
-use Rattle.yr_rules.specs.Rules.{PlainExternal, PlainRules}
-use Rattle.yr_rules.specs.Weight.{total, external_weight, rule_weight, string_weight, weight_of, weight_limit}
-use Rattle.yr_numbered.specs.Names.{Name, first}
-use Rattle.yr_uses.specs.Meanings.{EarlierRule}
+use Rattle.yr_rules.specs.Rules.{PlainExternal}
+use Rattle.yr_rules.specs.Weight.{total, external_weight, weight_of, weight_limit}
+use Rattle.yr_numbered.specs.Names.{first}
 use Rattle.yr_uses.specs.Views.{earlier_rules}
 use Rattle.yr_types.specs.declared.check.Check.{Check}
 use Rattle.yr_types.specs.declared.check.Check.TheVariants as check
-use Rattle.yr_types.specs.declared.refusal.Code.{Code}
 use Rattle.yr_types.specs.declared.refusal.Code.TheVariants as code
 use Rattle.yr_types.specs.Sources.{PlacedRule, AtRule, first_string_of, number_of, up_to}
-use Rattle.yr_types.specs.Given.{Given, Finding, finding, earlier_rule, rule_names, rule_node, where_true}
-use Rattle.yr_types.specs.Checked.{checked_rule, checked_rules, with_node}
+use Rattle.yr_types.specs.Given.{Given, finding, earlier_rule, rule_names, rule_node, where_true}
+use Rattle.yr_types.specs.Checked.{checked_rules}
 use Rattle.yr_types.specs.Checks.{is_heavy, rule_finding}
-use Rattle.yr_resolving.specs.Judged.{rule_fault, rest_fault, weight_fault}
-use Rattle.yr_types.specs.Refusals.{PlainRefusal, at_rule, checks}
-use Rattle.yr_resolving.specs.Stages.{early_fault, late_fault, late_finding}
+use Rattle.yr_resolving.specs.Judged.{weight_fault}
+use Rattle.yr_types.specs.Refusals.{at_rule, checks}
+use Rattle.yr_resolving.specs.Stages.{late_fault, late_finding}
 use Rattle.yr_rules.specs.Wellformed.{count_limit}
 use Rattle.yr_types.proofs.PassLemmas.{map-none, where-false, or-none, or-false}
 

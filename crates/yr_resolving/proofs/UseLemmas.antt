@@ -1,5 +1,5 @@
 -- What a condition with its forms uses has places of 32 bits, and rules that pass the checks on strings have sound ones.
-use Rattle.std.proofs.Common.{◌≡◌, ℕ, List, [], ◌∷◌, ◌++◌, length, map, Bool, true, false, refl, sym, ap, ◌∙◌, Some, None, Option}
+use Rattle.std.proofs.Common.{◌≡◌, ℕ, List, [], ◌∷◌, ◌++◌, map, Bool, true, false, refl, Some, None, Option}
 use Rattle.yr_syntax.specs.Condition as tree
 use Rattle.yr_syntax.specs.Condition.{Condition, Links, Steps, Items, Where, Asked, Domain, SetTree, ItemTree}
 use Rattle.yr_syntax.specs.Declaration.{StringTree, kind_of}
@@ -8,7 +8,6 @@ use Rattle.yr_text.specs.Checked.{checked}
 use Rattle.yr_numbered.specs.Names.{Name, first, with_sign}
 use Rattle.yr_uses.specs.Meanings as meaning
 use Rattle.yr_uses.specs.Meanings.{Around, Scope, Meaning, meaning_of, then_name, then_index, then_call, count_of, opened, current_of}
-use Rattle.yr_uses.specs.Uses as use'
 use Rattle.yr_uses.specs.Uses.{Use, uses_of, link_uses, path_uses, step_uses, item_uses, place_uses, asked_uses, domain_uses, string_uses, nameless_uses, set_uses, member_use, earlier_use, word_uses}
 use Rattle.yr_findings.specs.Findings.{HasShortText, IsSoundString}
 use Rattle.yr_types.specs.Given.{name_if}

@@ -1,25 +1,25 @@
 -- The first fault of all items, by what is seen of them.
-use Rattle.std.proofs.Common.{◌≡◌, ℕ, zero, suc, ◌+◌, ◌≤◌, ◌<◌, List, [], ◌∷◌, ◌++◌, length, map, filter, Bool, true, false, refl, sym, ap, subst, ◌∙◌, arith, Some, None, Option, append-nil, append_assoc}
+use Rattle.std.proofs.Common.{◌≡◌, ℕ, ◌+◌, List, [], ◌∷◌, ◌++◌, length, map, filter, Bool, true, false, refl, sym, ap, ◌∙◌, arith, Some, None, Option, append-nil, append_assoc}
 use Rattle.std.specs.Prelude.{if◌then◌else◌, bytes_eq}
 use Rattle.std.specs.List.{flat_map}
 use Rattle.std.specs.Option.{option_map, option_or}
-use Rattle.std.proofs.lemmas.List.{length-map, length-append}
+use Rattle.std.proofs.lemmas.List.{length-append}
 use Rattle.std.proofs.lemmas.Grind.{flat_map-append}
 use Rattle.yr_syntax.specs.Declaration.{RuleTree}
-use Rattle.yr_rules.specs.Rules.{PlainRule, PlainString}
-use Rattle.yr_rules.specs.Weight.{total, weight_of, rule_weight, string_weight, external_weight}
+use Rattle.yr_rules.specs.Rules.{PlainRule}
+use Rattle.yr_rules.specs.Weight.{total, weight_of, rule_weight, string_weight}
 use Rattle.yr_numbered.specs.Names.{Name, first}
 use Rattle.yr_types.specs.declared.check.Check.{Check}
 use Rattle.yr_types.specs.declared.check.Check.TheVariants as check
 use Rattle.yr_types.specs.declared.refusal.Code.TheVariants as code
-use Rattle.yr_types.specs.Sources.{Item, Import, Rule, PlacedImport, PlacedRule, AtRule, AtEnd, Place, placed_after, rules_in, number_of, strings_in, has_rule, last_imports, places, imported, is_in}
+use Rattle.yr_types.specs.Sources.{Item, Import, Rule, PlacedImport, PlacedRule, AtRule, AtEnd, Place, placed_after, rules_in, number_of, has_rule, last_imports, imported, is_in}
 use Rattle.yr_types.specs.Given.{Given, where_true, rule_names}
 use Rattle.yr_types.specs.Checks.{unknown_module, is_heavy, wildcards}
 use Rattle.yr_types.specs.Checked.{checked_rule, checked_rules, checked_strings, present}
-use Rattle.yr_resolving.specs.Judged.{rule_fault, rest_fault, weight_fault}
-use Rattle.yr_types.specs.Refusals.{PlainRefusal, at_end, at_import, checks, fault, import_fault, place_fault}
+use Rattle.yr_resolving.specs.Judged.{rule_fault, rest_fault}
+use Rattle.yr_types.specs.Refusals.{PlainRefusal, at_end, at_import, checks, import_fault, place_fault}
 use Rattle.yr_resolving.specs.Spaces.{SpaceTree, space_at, with_import, with_rule}
-use Rattle.yr_resolving.specs.Stages.{early_fault, late_fault}
+use Rattle.yr_resolving.specs.Stages.{early_fault}
 use Rattle.yr_resolving.specs.Walked.{fault_in}
 use Rattle.yr_types.proofs.PassLemmas.{rules-append, total-append}
 

@@ -1,12 +1,12 @@
 -- One item more is walked, or refused.
-use Rattle.std.proofs.Common.{◌≡◌, ℕ, zero, suc, set, ◌+◌, ◌-◌, ◌^◌, ◌≤◌, ◌<◌, List, [], ◌∷◌, ◌++◌, length, map, min, take, drop, Bool, true, false, refl, sym, ap, subst, ◌∙◌, arith, Some, None, Option, append_assoc}
+use Rattle.std.proofs.Common.{◌≡◌, ℕ, zero, suc, set, ◌+◌, ◌-◌, ◌^◌, ◌<◌, List, [], ◌∷◌, ◌++◌, length, map, min, take, Bool, true, false, refl, sym, ap, subst, ◌∙◌, arith, Some, None, Option, append_assoc}
 use Rattle.std.specs.Prelude.{if◌then◌else◌, bytes_eq, slice_get, is_none, is_some, not}
 use Rattle.std.specs.Option.{option_map, option_or}
 use Rattle.std.specs.Cmp.Lexicographic.{bytes_decides}
 use Rattle.std.proofs.lemmas.List.{length-append, length-map}
 use Rattle.std.proofs.lemmas.Option.{slice_get_read, slice_get_within}
 use Rattle.std.specs.List.{slice_index_or}
-use Rattle.yr_syntax.specs.Declaration.{Declaration, RuleTree, declaration_of, rule_of}
+use Rattle.yr_syntax.specs.Declaration.{Declaration, RuleTree, declaration_of}
 use Rattle.yr_syntax.specs.Forms.{Each}
 use Rattle.yr_rules.specs.Rules.{external_of, rule_of as checked_rule_of, string_of as checked_string_of}
 use Rattle.yr_rules.specs.Weight.{weight_of}
@@ -15,23 +15,23 @@ use Rattle.yr_uses.specs.Meanings.{module_named}
 use Rattle.yr_resolving.specs.declared.judging.Made.{Made}
 use Rattle.yr_resolving.specs.declared.space.Space.{Space}
 use Rattle.yr_resolving.specs.declared.walking.Walk.{Walk}
-use Rattle.yr_types.specs.Sources.{Item, Import, Rule, item_of, PlacedImport, PlacedRule, AtRule, last_imports, rules_in, strings_in}
+use Rattle.yr_types.specs.Sources.{Item, Import, Rule, item_of, PlacedImport, PlacedRule, rules_in, strings_in}
 use Rattle.yr_types.specs.Given.{Given, external_names}
 use Rattle.yr_resolving.specs.declared.at_hand.AtHand.{AtHand}
 use Rattle.yr_findings.specs.declared.items.Placed.{Placed}
 use Rattle.yr_findings.specs.Placed.{item_at}
 use Rattle.yr_resolving.specs.AtHand.{IsAtHand, given_at, placed_at}
-use Rattle.yr_types.specs.Checked.{checked_rule, checked_rules, checked_strings}
+use Rattle.yr_types.specs.Checked.{checked_rules}
 use Rattle.yr_types.specs.Checks.{unknown_module, wildcards}
 use Rattle.yr_types.specs.declared.refusal.ResolveFault.{ResolveFault}
 use Rattle.yr_types.specs.declared.refusal.ResolveFault.TheVariants as fault
 use Rattle.yr_resolving.specs.Judged.{Explains, IsMade, rule_fault}
-use Rattle.yr_types.specs.Refusals.{PlainRefusal, at_import, checks, place_fault, refusal_of}
+use Rattle.yr_types.specs.Refusals.{PlainRefusal, at_import, checks, refusal_of}
 use Rattle.yr_resolving.specs.Spaces.{SpaceTree, IsFirstNamed, found_space, space_at, space_shown, with_import, with_rule}
-use Rattle.yr_resolving.specs.Walked.{IsKept, IsWalked, fault_in}
+use Rattle.yr_resolving.specs.Walked.{IsWalked, fault_in}
 use Rattle.yr_types.proofs.PassLemmas.{strings-counted}
 use Rattle.yr_resolving.proofs.SpaceLemmas.{found-at, found-changed, set-here, set-many, set-other}
-use Rattle.yr_resolving.proofs.WalkLemmas.{checked-import, count-more, fault-at-import, fault-at-rule, import-last, known-import, last-rule, passed-import, passed-rule, rule-place, rules-more, space-import, space-rule, strings-more, unknown-import}
+use Rattle.yr_resolving.proofs.WalkLemmas.{checked-import, count-more, fault-at-import, fault-at-rule, import-last, known-import, last-rule, passed-import, passed-rule, rules-more, space-import, space-rule, strings-more, unknown-import}
 
 some-inj : {A : Type 0} {a b : A} → Some a ≡ Some b → a ≡ b
 some-inj e = cc

@@ -10,7 +10,7 @@ use Rattle.yr_resolving.specs.declared.judging.Before.{Before}
 use Rattle.yr_resolving.specs.declared.judging.Made.{Made}
 use Rattle.yr_types.specs.declared.refusal.ResolveFault.{ResolveFault}
 use Rattle.yr_types.specs.declared.refusal.ResolveFault.TheVariants as fault
-use Rattle.yr_types.specs.Sources.{Item, Rule, PlacedRule, number_of, first_string_of}
+use Rattle.yr_types.specs.Sources.{Rule, PlacedRule, number_of, first_string_of}
 use Rattle.yr_types.specs.Given.{Given}
 use Rattle.yr_types.specs.Checked.{checked_rule, checked_rules, checked_strings}
 use Rattle.yr_types.specs.Checks.{rule_finding, wildcards}

@@ -5,7 +5,7 @@ use Rattle.yr_numbered.specs.Names.{Name}
 use Rattle.yr_resolving.specs.declared.space.Space.{Space}
 use Rattle.yr_types.specs.Checks.{wildcards}
 use Rattle.yr_types.specs.Given.{Given, rule_names}
-use Rattle.yr_types.specs.Sources.{Item, PlacedRule, imported, is_in, number_of, rules_in}
+use Rattle.yr_types.specs.Sources.{Item, imported, is_in, number_of, rules_in}
 
 -- a namespace: its imports, the names of its rules with their numbers, and the wildcards in their conditions
 pub record SpaceTree : Type 0 where

@@ -1,5 +1,5 @@
 -- The checks in the order in which the code makes them: those that look at no condition, the others, and the weight.
-use Rattle.std.specs.Prelude.{List, Option, Some, None}
+use Rattle.std.specs.Prelude.{Option, None}
 use Rattle.yr_types.specs.declared.check.Check.{Check}
 use Rattle.yr_types.specs.declared.check.Check.TheVariants as check
 use Rattle.yr_types.specs.Sources.{PlacedRule}

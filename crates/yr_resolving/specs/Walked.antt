@@ -1,7 +1,6 @@
 -- What the code keeps of the imports and rules that it has seen.
-use Rattle.std.specs.Prelude.{◌≡◌, ℕ, ◌≤◌, ◌<◌, ◌-◌, ◌^◌, ◌++◌, ◌∷◌, [], List, map, min, length, set, Option, Some, None, slice_get}
-use Rattle.std.specs.Prelude.{All}
-use Rattle.yr_syntax.specs.Declaration.{Declaration, declaration_of}
+use Rattle.std.specs.Prelude.{◌≡◌, ℕ, ◌≤◌, ◌-◌, ◌^◌, ◌++◌, ◌∷◌, [], List, map, min, length, set, Option, Some, None, slice_get}
+use Rattle.yr_syntax.specs.Declaration.{declaration_of}
 use Rattle.yr_syntax.specs.Forms.{DeclarationHasForms, Each}
 use Rattle.yr_syntax.specs.declared.declaration.Rule.{Rule as RuleType}
 use Rattle.yr_rules.specs.Rules.{external_of, rule_of as checked_rule_of, string_of as checked_string_of}
@@ -15,7 +14,6 @@ use Rattle.yr_resolving.specs.declared.walking.Walk.{Walk}
 use Rattle.yr_types.specs.Checked.{checked_rules}
 use Rattle.yr_types.specs.Checks.{unknown_module}
 use Rattle.yr_types.specs.Given.{Given, external_names}
-use Rattle.yr_findings.specs.Placed.{item_at}
 use Rattle.yr_types.specs.Refusals.{PlainRefusal, place_fault}
 use Rattle.yr_types.specs.Resolving.{given_by}
 use Rattle.yr_types.specs.Sources.{Item, AtRule, last_imports, places, rules_in}

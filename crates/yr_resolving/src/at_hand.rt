@@ -1,7 +1,7 @@
 //! A rule with what stands before it.
 
-use yr_findings::Placed;
 use crate::space::Space;
+use yr_findings::Placed;
 use yr_numbered::Numbered;
 use yr_rules::External;
 use yr_syntax::Rule;

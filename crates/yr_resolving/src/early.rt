@@ -7,11 +7,12 @@ ghost use Rattle.yr_findings.specs.Findings.{finding_of};
 ghost use Rattle.yr_resolving.specs.Stages.{early_finding};
 
 use crate::at_hand::AtHand;
-use yr_findings::{Finding, first_bad_modifiers, first_empty, has_front, string_twice, tag_twice, where_true};
-use yr_types::Check;
-use yr_types::Code;
 use std::alloc::Global;
 use yr_base::NoMemory;
+use yr_findings::{
+    Finding, first_bad_modifiers, first_empty, has_front, string_twice, tag_twice, where_true,
+};
+use yr_types::{Check, Code};
 
 /// What the check finds.
 pub fn early_check<'a>(

@@ -23,16 +23,19 @@ ghost use Rattle.yr_uses.specs.Around.{around_of};
 
 use crate::at_hand::AtHand;
 use crate::late::Examined;
-use yr_findings::{Named, StringFindings, checked_strings, copy_bytes, copy_meta, copy_tags, first_expression_findings, first_unused, found, string_findings, string_names, wildcards};
-use yr_types::{Check, Code, ResolveFault};
+use crate::node_stub::condition_node;
 use crate::refusing::refuse_rule;
 use crate::stages::{CHECKS, Fault, first_early, first_late};
 use std::alloc::Global;
 use yr_base::NoMemory;
+use yr_findings::{
+    Named, StringFindings, checked_strings, copy_bytes, copy_meta, copy_tags,
+    first_expression_findings, first_unused, found, string_findings, string_names, wildcards,
+};
 use yr_kinds::{condition_kind, condition_weight, meta_weight, tags_weight};
 use yr_numbered::{Name, Numbered};
-use crate::node_stub::condition_node;
 use yr_rules::{CheckedRule, CheckedString, External, Kind, Node};
+use yr_types::{Check, Code, ResolveFault};
 use yr_uses::{Around, Uses, condition_uses};
 
 /// How many rules and strings stand before a rule, and what they weigh with the externals, as far as 64 bits tell.
@@ -223,12 +226,7 @@ fn too_heavy(alloc: Global, at: &AtHand<'_, '_>, before: &Before) -> ResolveFaul
 }
 
 /// What the rules up to this one weigh.
-fn weight_so_far(
-    at: &AtHand<'_, '_>,
-    before: &Before,
-    strings_weight: u64,
-    condition: &Node,
-) -> u64
+fn weight_so_far(at: &AtHand<'_, '_>, before: &Before, strings_weight: u64, condition: &Node) -> u64
     requires before { IsBefore (given_at at.now) (placed_at at.now) before.now }
     requires strings { strings_weight ≡ min (total weight_of_string (checked.checked_strings (given_at at.now) (placed_at at.now))) (2 ^ 64 - 1) }
     requires condition { rule_node (given_at at.now) (placed_at at.now) ≡ Some (node_tree condition.now) }

@@ -9,11 +9,13 @@ ghost use Rattle.yr_resolving.specs.Late.{IsExamined};
 ghost use Rattle.yr_resolving.specs.Stages.{late_finding};
 
 use crate::at_hand::AtHand;
-use yr_findings::{Finding, Named, first_unknown_name, first_unknown_string, found, some_deep, some_long, where_true};
-use yr_types::Check;
-use yr_types::Code;
+use yr_findings::{
+    Finding, Named, first_unknown_name, first_unknown_string, found, some_deep, some_long,
+    where_true,
+};
 use yr_numbered::Numbered;
 use yr_rules::Kind;
+use yr_types::{Check, Code};
 use yr_uses::Uses;
 
 /// A rule with all that its later checks look at.

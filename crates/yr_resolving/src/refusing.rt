@@ -8,11 +8,10 @@ ghost use Rattle.yr_types.specs.Refusals as spec;
 ghost use Rattle.yr_types.specs.Sources.{number_of};
 
 use crate::at_hand::AtHand;
-use yr_types::Check;
-use yr_findings::{Finding, named_bytes};
-use yr_types::{Code, Refusal};
 use std::alloc::Global;
 use yr_base::NoMemory;
+use yr_findings::{Finding, named_bytes};
+use yr_types::{Check, Code, Refusal};
 
 /// The number of a check, from 1.
 fn order(check: Check) -> u8

@@ -15,13 +15,12 @@ ghost use Rattle.yr_resolving.specs.Walked.{IsSetting, IsWalked, fault_in, given
 ghost use Rattle.yr_values.specs.Names.{names_shown};
 
 use crate::judging::WEIGHT_LIMIT;
-use yr_findings::{copy_externals, external_names, placed_items};
-use yr_types::ResolveFault;
 use crate::refusing::refuse_end;
-use yr_types::Unit;
 use crate::walking::{Setting, Walk, first_walk, walk_item};
 use std::alloc::Global;
+use yr_findings::{copy_externals, external_names, placed_items};
 use yr_rules::{CheckedRules, External};
+use yr_types::{ResolveFault, Unit};
 use yr_values::ModuleNames;
 
 /// The rules, where all have passed and are light enough.

@@ -8,12 +8,12 @@ ghost use Rattle.yr_resolving.specs.Late.{IsExamined};
 ghost use Rattle.yr_resolving.specs.Stages.{early_fault, late_fault, fault_at};
 
 use crate::at_hand::AtHand;
-use yr_types::Check;
 use crate::early::early_check;
-use yr_findings::Finding;
 use crate::late::{Examined, late_check};
 use std::alloc::Global;
 use yr_base::NoMemory;
+use yr_findings::Finding;
+use yr_types::Check;
 
 /// All checks in their order.
 pub const CHECKS: [Check; 18] = [

@@ -8,17 +8,17 @@ ghost use Rattle.yr_findings.specs.Placed.{item_at};
 ghost use Rattle.yr_resolving.specs.Walked.{IsKept, IsSetting, IsWalked, fault_in, given_in};
 
 use crate::at_hand::AtHand;
-use yr_findings::Placed;
 use crate::judging::{Before, Made, judge};
-use yr_types::ResolveFault;
 use crate::refusing::refuse_import;
 use crate::space::{Space, add_import, add_rule, open_space};
 use std::alloc::Global;
 use yr_base::NoMemory;
+use yr_findings::Placed;
 use yr_kinds::externals_weight;
 use yr_numbered::Numbered;
 use yr_rules::{CheckedRule, CheckedString, External};
 use yr_syntax::{Decl, Rule};
+use yr_types::ResolveFault;
 use yr_uses::find_module;
 use yr_values::ModuleNames;
 

@@ -1,4 +1,4 @@
-use Rattle.std.proofs.Common.{◌≡◌, [], length, Some, sym, ap, ◌∙◌, false, true}
+use Rattle.std.proofs.Common.{◌≡◌, [], length, Some, sym, ap, ◌∙◌, false}
 use Rattle.std.specs.Option.{option_map}
 use Rattle.std.proofs.lemmas.List.{length-map}
 use Rattle.yr_rules.specs.NodeTree.{tree_of as node_tree}

@@ -1,12 +1,9 @@
-use Rattle.std.proofs.Common.{◌≡◌, List, map, length, refl, sym, ap, ◌∙◌, subst, arith}
+use Rattle.std.proofs.Common.{◌≡◌, map, refl, ap, ◌∙◌, arith}
 use Rattle.std.proofs.lemmas.List.{length-map}
 use Rattle.yr_nodes.specs.Fixed.{the_readers}
 use Rattle.yr_types.specs.Resolving.{given_by}
-use Rattle.yr_types.specs.Sources.{Item, items_of, unit_of}
+use Rattle.yr_types.specs.Sources.{items_of, unit_of}
 use Rattle.yr_findings.specs.Placed.{item_at}
-use Rattle.yr_resolving.specs.Judged.{Explains}
-use Rattle.yr_resolving.specs.Walked.{IsWalked, fault_in}
-use Rattle.yr_resolving.proofs.FinishLemmas.{refused-gives}
 use Rattle.yr_resolving.proofs.GoodLemmas.{forms-are}
 use Rattle.yr_resolving.proofs.resolving.resolve_all.Goals as goal
 

@@ -1,4 +1,4 @@
-use Rattle.std.proofs.Common.{◌≡◌, take, map}
+use Rattle.std.proofs.Common.{take, map}
 use Rattle.yr_findings.specs.Placed.{item_at}
 use Rattle.yr_resolving.specs.Walked.{IsWalked, given_in}
 use Rattle.yr_resolving.proofs.resolving.walk_all.Given as goal

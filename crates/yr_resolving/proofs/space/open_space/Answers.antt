@@ -1,4 +1,4 @@
-use Rattle.std.proofs.Common.{◌≡◌, ◌<◌, ◌++◌, ◌∷◌, [], List, ℕ, length, sym, ap, ◌∙◌, subst, arith}
+use Rattle.std.proofs.Common.{◌≡◌, ◌++◌, ◌∷◌, [], List, ℕ, length, sym, ap, ◌∙◌, subst, arith}
 use Rattle.yr_resolving.specs.declared.space.Space.{Space}
 use Rattle.yr_resolving.specs.Spaces.{IsFirstNamed, found_space}
 use Rattle.yr_resolving.proofs.SpaceLemmas.{first-pushed, found-empty}

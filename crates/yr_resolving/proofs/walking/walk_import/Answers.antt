@@ -1,12 +1,12 @@
-use Rattle.std.proofs.Common.{◌≡◌, ℕ, List, Some, true, false, length, map, take, refl, sym, ap, ◌∙◌, subst, arith}
-use Rattle.std.specs.Prelude.{is_none, slice_get}
+use Rattle.std.proofs.Common.{◌≡◌, List, Some, true, false, length, map, refl, sym, ap, ◌∙◌}
+use Rattle.std.specs.Prelude.{is_none}
 use Rattle.std.specs.List.{slice_index_or}
 use Rattle.std.proofs.lemmas.Option.{slice_get_read}
 use Rattle.yr_syntax.specs.Declaration as declaration
 use Rattle.yr_uses.specs.Meanings.{module_named}
 use Rattle.yr_values.specs.declared.names.Module.{Module}
 use Rattle.yr_values.specs.Names.{module_shown}
-use Rattle.yr_types.specs.Sources.{Item, Import, PlacedImport}
+use Rattle.yr_types.specs.Sources.{PlacedImport}
 use Rattle.yr_findings.specs.Placed.{item_at}
 use Rattle.yr_resolving.specs.Walked.{given_in}
 use Rattle.yr_resolving.proofs.WalkedLemmas.{import-kept, item-there, none-shown, none-test, refuse-import}

@@ -1,5 +1,4 @@
-use Rattle.std.proofs.Common.{◌≡◌, Some, length, map, take, refl, ap, ◌∙◌, subst, arith}
-use Rattle.std.specs.Prelude.{slice_get}
+use Rattle.std.proofs.Common.{◌≡◌, length, map, take, refl, ap, ◌∙◌, subst, arith}
 use Rattle.std.specs.List.{slice_index_or}
 use Rattle.std.proofs.lemmas.Option.{slice_get_read}
 use Rattle.yr_syntax.specs.Declaration as declaration
@@ -59,7 +58,7 @@ returns-in_ok-keep-in-Ok-clause-walked c =
     let mid = c.open_space.new.spaces.items in
     let k = c.in_ok-number.number in
     let read = slice_get_read mid (length mid) k c.index.result.now refl c.in_ok-number.ensures.within c.index.ensures in
-    let kept = c.in_ok-keep.ensures in
+    let kept = c.in_ok-keep-in-Ok.ensures in
     let own = kept.spaces c.index.result.now read in
     rule-kept (given_in s) (map item_at s.items.now) c.args.place x.unit x.namespace.now (declaration.rule_of c.args.rule.now) c.args.walk.now c.keep.new.walk c.in-Ok.made mid k c.index.result.now own.0
     there c.requires.walked c.in-Ok.ensures.made c.in-Ok.ensures.passed c.in_ok-number.ensures.same c.in_ok-number.ensures.first read own.2 own.3 own.1 kept.rules kept.strings kept.weight
