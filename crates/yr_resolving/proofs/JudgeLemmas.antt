@@ -19,7 +19,7 @@ use Rattle.yr_types.proofs.PassLemmas.{map-none, or-none}
 use Rattle.yr_findings.specs.Findings.{IsSoundString}
 use Rattle.yr_resolving.specs.Judged.{Explains, rest_fault, rule_fault, weight_fault}
 use Rattle.yr_resolving.specs.Stages.{early_fault, early_finding, late_fault}
-use Rattle.yr_resolving.proofs.ShapeLemmas.{shape-exact, shape-kind}
+use Rattle.yr_nodes.proofs.ShapeLemmas.{shape-exact, shape-kind}
 use Rattle.yr_resolving.proofs.StageLemmas.{few-counts, has-kind, too-many}
 use Rattle.yr_resolving.proofs.UseLemmas.{sound-strings}
 use Rattle.yr_resolving.proofs.WalkLemmas.{stages}

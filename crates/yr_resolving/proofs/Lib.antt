@@ -1,5 +1,3 @@
-pub mod FixedLemmas
-pub mod ShapeLemmas
 pub mod WalkLemmas
 pub mod SpaceLemmas
 pub mod SpreadLemmas

@@ -23,7 +23,6 @@ ghost use Rattle.yr_uses.specs.Around.{around_of};
 
 use crate::at_hand::AtHand;
 use crate::late::Examined;
-use crate::node_stub::condition_node;
 use crate::refusing::refuse_rule;
 use crate::stages::{CHECKS, Fault, first_early, first_late};
 use std::alloc::Global;
@@ -33,6 +32,7 @@ use yr_findings::{
     first_expression_findings, first_unused, found, string_findings, string_names, wildcards,
 };
 use yr_kinds::{condition_kind, condition_weight, meta_weight, tags_weight};
+use yr_nodes::condition_node;
 use yr_numbered::{Name, Numbered};
 use yr_rules::{CheckedRule, CheckedString, External, Kind, Node};
 use yr_types::{Check, Code, ResolveFault};

@@ -5,7 +5,6 @@ mod at_hand;
 mod early;
 mod judging;
 mod late;
-mod node_stub;
 mod refusing;
 mod resolving;
 mod space;

@@ -7,7 +7,7 @@ use Rattle.yr_rules.specs.NodeTree.{NodeTree, tree_of as node_tree}
 use Rattle.yr_uses.specs.Meanings.{Around}
 use Rattle.yr_types.specs.Given.{around}
 use Rattle.yr_resolving.specs.AtHand.{given_at, placed_at}
-use Rattle.yr_resolving.proofs.ShapeLemmas.{shape-kind}
+use Rattle.yr_nodes.proofs.ShapeLemmas.{shape-kind}
 use Rattle.yr_resolving.proofs.judging.judge_named.Goals as goal
 
 pub later_fault-requires-clause-kind : goal.later_fault-requires-clause-kind

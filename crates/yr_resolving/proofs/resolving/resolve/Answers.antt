@@ -6,7 +6,7 @@ use Rattle.yr_rules.specs.Rules.{rules_of}
 use Rattle.yr_types.specs.Refusals.{resolved}
 use Rattle.yr_types.specs.Resolving.{given_by, refusal_in}
 use Rattle.yr_types.specs.Sources.{unit_of}
-use Rattle.yr_resolving.proofs.FixedLemmas.{one-readers}
+use Rattle.yr_nodes.proofs.FixedLemmas.{one-readers}
 use Rattle.yr_resolving.proofs.FinishLemmas.{ids-in}
 use Rattle.yr_resolving.proofs.resolving.resolve.Goals as goal
 
