@@ -55,6 +55,13 @@ impl Matches {
         Ok(Matches::new(copies, hits))
     }
 
+    /// How many strings have a list.
+    pub fn strings(&self) -> usize
+        ensures { result ≡ length self.now.lists }
+    {
+        self.lists.len()
+    }
+
     /// The offsets and lengths of a string's matches, in the order of their offsets.
     pub fn list(&self, string: u32) -> &[(u32, u32)]
         requires { string < length self.now.lists }

@@ -5,3 +5,4 @@ pub mod Answers
 pub mod Shapes
 pub mod Views
 pub mod Room
+pub mod Steps

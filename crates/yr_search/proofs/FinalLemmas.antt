@@ -1,16 +1,15 @@
 -- The hits of a file, and the match lists that they give.
-use Rattle.std.proofs.Common.{◌≡◌, ◌≢◌, ℕ, zero, suc, ◌+◌, ◌-◌, ◌*◌, ◌<◌, ◌≤◌, ◌^◌, ◌⊎◌, inl, inr, ◌↔◌, Bool, List, [], ◌∷◌, ◌++◌, length, get_or, map, All, Contains, Option, Some, None, option_map, unwrap_or, refl, sym, ap, ◌∙◌, subst, arith, length-append}
+use Rattle.std.proofs.Common.{◌≡◌, ℕ, zero, suc, ◌+◌, ◌*◌, ◌<◌, ◌≤◌, ◌^◌, ◌⊎◌, inl, inr, Bool, List, [], ◌∷◌, ◌++◌, length, get_or, map, All, Contains, Option, Some, unwrap_or, refl, sym, ap, ◌∙◌, subst, arith, length-append}
 use Rattle.std.specs.Prelude.{slice_get, Vec}
 use Rattle.std.specs.declared.alloc.Global.{Global}
 use Rattle.std.specs.List.{sum}
 use Rattle.std.proofs.lemmas.List.Sums.{sum_by-cons}
 use Rattle.std.proofs.Math.Nat.{mul-le-mul_left}
-use Rattle.std.proofs.lemmas.Option.{slice_get-map, slice_get_within, get_or_from_slice_get}
+use Rattle.std.proofs.lemmas.Option.{slice_get_within, get_or_from_slice_get}
 use Rattle.std.proofs.lemmas.List.Elements.{Contains-append_left, Contains-append_right, Contains-append_cases}
 use Rattle.yr_answer.specs.MatchList.{Match, RisesFrom, IsMatchList}
-use Rattle.yr_rows.specs.Walk.{Walks, AreOutputs}
-use Rattle.yr_rows.specs.Nodes.{edge_of, link_of, own_of}
-use Rattle.yr_image.specs.declared.rows.SplitRow.{SplitRow}
+use Rattle.yr_rows.specs.Walk.{AreOutputs}
+use Rattle.yr_rows.specs.Nodes.{link_of, own_of}
 use Rattle.yr_image.specs.declared.rows.StringRow.{StringRow}
 use Rattle.yr_image.specs.Image.{Image}
 use Rattle.yr_image.specs.Reading.{image_in}
@@ -19,18 +18,15 @@ use Rattle.yr_machine.specs.ImageMatches.{IsCounted, AreImageMatches, is_greates
 use Rattle.yr_machine.specs.Wellformed.{IsWellformed}
 use Rattle.yr_machine.specs.Budget.{search_budget, output_cost}
 use Rattle.yr_matches.specs.Found.{Found, IsReadable, items_of}
-use Rattle.yr_search.specs.Gathering.{IsSettled, AreShort}
-use Rattle.yr_search.specs.Spans.{IsSpan}
-use Rattle.yr_search.specs.Taking.{TakesFronts}
+use Rattle.yr_search.specs.Gathering.{IsSettled}
 use Rattle.yr_search.specs.Uppers.{own, upper, costs}
-use Rattle.yr_search.specs.Walked.{AreFronts, IsUpperAfter, front_cost, Walked, total, repeated, root_fronts}
+use Rattle.yr_search.specs.Walked.{AreFronts, front_cost, total, repeated, root_fronts}
 use Rattle.yr_search.specs.FoundIn.{IsFoundIn, AreTaken, AreSettled, AreAllShort}
-use Rattle.yr_search.proofs.SettleLemmas.{contains_none, rises_weaken}
 use Rattle.yr_search.proofs.HitLemmas.{there}
-use Rattle.yr_search.proofs.SideLemmas.{side_up, side_down}
+use Rattle.yr_search.proofs.SideLemmas.{side_up}
 use Rattle.yr_search.proofs.TakeLemmas.{items_get}
 use Rattle.yr_search.proofs.NodeLemmas.{outputs_are, links_fall}
-use Rattle.yr_search.proofs.GatherLemmas.{Holds, CountedBy, IsGathered, gathered_as, InFronts, gather_fronts, gather_empty, settled_is_list}
+use Rattle.yr_search.proofs.GatherLemmas.{Holds, CountedBy, IsGathered, InFronts, gather_fronts, gather_empty, settled_is_list}
 
 -- ---- fronts by their places
 

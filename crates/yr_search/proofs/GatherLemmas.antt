@@ -1,20 +1,16 @@
 -- What lists hold after hits are taken, and the match lists that they give.
-use Rattle.std.proofs.Common.{◌≡◌, ◌≢◌, ℕ, zero, suc, ◌+◌, ◌-◌, ◌*◌, ◌<◌, ◌≤◌, ◌==◌, ◌^◌, ◌⊎◌, inl, inr, ◌↔◌, Bool, true, false, MatchBool, List, [], ◌∷◌, ◌++◌, length, get_or, map, set, All, Contains, Option, Some, None, option_map, refl, sym, ap, ◌∙◌, subst, arith, length-append}
+use Rattle.std.proofs.Common.{◌≡◌, ◌≢◌, ℕ, zero, suc, ◌+◌, ◌<◌, ◌≤◌, ◌==◌, ◌⊎◌, inl, inr, Bool, true, false, List, [], ◌∷◌, length, get_or, set, Contains, Option, Some, refl, sym, ap, ◌∙◌, subst, arith}
 use Rattle.std.specs.Prelude.{slice_get}
-use Rattle.std.specs.List.{sum, list_any}
-use Rattle.std.proofs.lemmas.Option.{slice_get-map, slice_get_within}
 use Rattle.std.proofs.lemmas.List.Elements.{Contains-append_left, Contains-append_right, Contains-append_cases}
 use Rattle.std.proofs.lemmas.Bool.Decides.{Decides-eqb, Decides-or}
-use Rattle.yr_answer.specs.MatchList.{Match, IsBest, IsMatch, RisesFrom, IsMatchList, begins_at}
+use Rattle.yr_answer.specs.MatchList.{Match, RisesFrom, IsMatchList, begins_at}
 use Rattle.yr_image.specs.declared.rows.SplitRow.{SplitRow}
 use Rattle.yr_image.specs.declared.rows.StringRow.{StringRow}
 use Rattle.yr_image.specs.Image.{Image}
-use Rattle.yr_machine.specs.ImageMatches.{is_greatest, IsCounted}
-use Rattle.yr_machine.specs.Hits.{IsHit}
-use Rattle.yr_search.specs.Gathering.{DoesFor, Grows, IsSettled, AreShort}
+use Rattle.yr_machine.specs.ImageMatches.{is_greatest}
+use Rattle.yr_search.specs.Gathering.{DoesFor, Grows, IsSettled}
 use Rattle.yr_search.specs.Spans.{IsSpan}
 use Rattle.yr_search.specs.Taking.{Takes, TakesAll, TakesFronts}
-use Rattle.yr_search.specs.Walked.{repeated}
 use Rattle.yr_search.proofs.SettleLemmas.{contains_first, contains_later, contains_none, contains_cases}
 
 -- an element of a list in which one was replaced

@@ -1,26 +1,20 @@
 -- Where the sides of a hit lead.
-use Rattle.std.proofs.Common.{◌≡◌, ◌≢◌, ℕ, ◌+◌, ◌-◌, ◌*◌, ◌<◌, ◌≤◌, ◌==◌, ◌⊎◌, inl, inr, ◌↔◌, Bool, true, false, MatchBool, IsTrue, IfSome, IfNone, List, length, Option, Some, None, refl, sym, ap, ◌∙◌, subst, arith}
+use Rattle.std.proofs.Common.{◌≡◌, ◌≢◌, ℕ, ◌+◌, ◌-◌, ◌*◌, ◌<◌, ◌≤◌, ◌==◌, inl, inr, ◌↔◌, Bool, true, false, MatchBool, IfSome, IfNone, List, length, Option, Some, None, refl, sym, ap, ◌∙◌, subst, arith}
 use Rattle.std.specs.Prelude.{slice_get}
 use Rattle.std.proofs.lemmas.Option.{slice_get_cases}
 use Rattle.std.proofs.Math.Nat.{mul-le-mul_left}
-use Rattle.yr_rows.specs.declared.moves.MoveRow.{MoveRow}
 use Rattle.yr_rows.specs.Accepts.{Accepts, AcceptsBackwards}
 use Rattle.yr_base.specs.Places.{has_right_border}
 use Rattle.yr_moves.specs.declared.rows.ProgramRows.{ProgramRows}
 use Rattle.yr_moves.specs.Programs.{moves_of, sets_of}
 use Rattle.yr_moves.specs.Walks as engine
-use Rattle.yr_answer.specs.MatchList.{IsBest}
-use Rattle.yr_image.specs.declared.rows.SplitRow.{SplitRow}
-use Rattle.yr_image.specs.declared.rows.ProgramRow.{ProgramRow}
 use Rattle.yr_image.specs.Image.{Image, in_pool, pool_text}
 use Rattle.yr_image.specs.Image as image_parts
 use Rattle.yr_image.specs.Views.{image_of}
-use Rattle.yr_machine.specs.Budget.{moves_count}
-use Rattle.yr_machine.specs.ImageMatches.{Side, Nothing, Literal, Program, side_of, SideSpans, IsReadAs, StandsAt, ProgramAccepts}
+use Rattle.yr_machine.specs.ImageMatches.{Nothing, Literal, Program, IsReadAs, StandsAt, ProgramAccepts}
 use Rattle.yr_search.specs.declared.hit.Hit.{Hit}
-use Rattle.yr_search.specs.declared.hit.Ends.{Ends}
 use Rattle.yr_search.specs.Programs.{IsProgramOf}
-use Rattle.yr_search.specs.Spans.{begin_of, IsGoodHit, StartsAt, LeadsTo, EndsAt, IsSpanOf, IsOnly, IsBestOf, AreEnds}
+use Rattle.yr_search.specs.Spans.{begin_of, IsGoodHit, StartsAt, LeadsTo, EndsAt, IsOnly, IsBestOf, AreEnds}
 use Rattle.yr_search.proofs.SideLemmas.{IsSide, HasGoodFields, good_fields, leads_by, nothing_is, literal_is, program_is, side_up, side_down, best_of, best_as}
 
 pub there : {A : Type 0} → (xs : List A) (k : ℕ) → k < length xs → (x : A) × (slice_get xs k ≡ Some x)

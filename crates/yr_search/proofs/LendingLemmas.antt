@@ -1,12 +1,11 @@
 -- A range of the moves' bytes is a program.
-use Rattle.std.proofs.Common.{◌≡◌, ℕ, ◌+◌, ◌*◌, ◌<◌, ◌≤◌, ◌⊎◌, inl, inr, List, length, take, drop, Some, refl, sym, ap, ◌∙◌, subst, arith}
+use Rattle.std.proofs.Common.{◌≡◌, ℕ, ◌*◌, ◌<◌, ◌≤◌, ◌⊎◌, inl, inr, List, length, take, drop, Some, sym, ap, ◌∙◌, subst, arith}
 use Rattle.std.specs.Prelude.{slice_get}
 use Rattle.std.proofs.lemmas.List.{length-drop, length-take-le}
 use Rattle.std.specs.Ordering.{ord_max, nat_cmp}
 use Rattle.std.proofs.lemmas.Bool.{cases_lt}
 use Rattle.std.proofs.lemmas.Bool.Decides.{nat_tests}
-use Rattle.yr_rows.specs.Moves.{moves_in, sets_in, program_moves, AreWellformedMoves}
-use Rattle.yr_rows.specs.declared.moves.MoveRow.{MoveRow}
+use Rattle.yr_rows.specs.Moves.{moves_in, AreWellformedMoves}
 use Rattle.yr_rows.proofs.RowLemmas.{moves_in-range}
 use Rattle.yr_moves.specs.declared.rows.ProgramRows.{ProgramRows}
 use Rattle.yr_moves.specs.Programs.{moves_of, sets_of}

@@ -12,3 +12,4 @@ pub mod SceneLemmas
 pub mod GatherLemmas
 pub mod FinalLemmas
 pub mod SkipLemmas
+pub mod StepLemmas

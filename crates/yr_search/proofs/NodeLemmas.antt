@@ -1,31 +1,25 @@
 -- Nodes of an image's automaton, and the outputs there.
-use Rattle.std.proofs.Common.{◌≡◌, ◌≢◌, ℕ, zero, suc, ◌+◌, ◌-◌, ◌*◌, ◌<◌, ◌≤◌, ◌==◌, ◌⊎◌, inl, inr, Bool, true, false, cond, List, [], ◌∷◌, ◌++◌, length, take, drop, get_or, map, All, Option, Some, None, append_assoc, append-nil, refl, sym, ap, ◌∙◌, subst, arith}
+use Rattle.std.proofs.Common.{◌≡◌, ◌≢◌, ℕ, zero, suc, ◌+◌, ◌-◌, ◌<◌, ◌≤◌, ◌==◌, inl, inr, Bool, true, false, cond, List, [], ◌∷◌, ◌++◌, length, take, drop, get_or, Some, append_assoc, append-nil, refl, sym, ap, ◌∙◌, subst, arith}
 use Rattle.std.specs.Prelude.{slice_get}
 use Rattle.std.specs.Option.{option_map_or}
-use Rattle.std.specs.List.{sum}
 use Rattle.std.proofs.Math.Seq.{drop-cons}
-use Rattle.std.proofs.lemmas.List.{length-drop, length-take-le, length-append, nil_from_length}
-use Rattle.std.proofs.lemmas.Option.{slice_get-get_or, get_or_from_slice_get, slice_get_within}
+use Rattle.std.proofs.lemmas.List.{length-drop, length-take-le, nil_from_length}
+use Rattle.std.proofs.lemmas.Option.{get_or_from_slice_get, slice_get_within}
 use Rattle.std.proofs.lemmas.Bool.{cases_lt}
-use Rattle.std.proofs.lemmas.Bool.Decides.{nat_tests, Decides-eqb}
+use Rattle.std.proofs.lemmas.Bool.Decides.{nat_tests}
 use Rattle.yr_rows.specs.declared.nodes.NodeRow.{NodeRow}
-use Rattle.yr_rows.specs.declared.nodes.EdgeRow.{EdgeRow}
-use Rattle.yr_rows.specs.Walk.{Asks, Walks, IsChain, AreOutputs}
-use Rattle.yr_rows.specs.Nodes.{nodes_of, edges_of, outputs_of, edge_of, link_of, own_of, edges_at, target_in, outputs_end, IsWellformedNode, AreWellformed, IsEdge}
+use Rattle.yr_rows.specs.Walk.{AreOutputs}
+use Rattle.yr_rows.specs.Nodes.{link_of, own_of, outputs_end}
 use Rattle.yr_automaton.proofs.SearchLemmas.{segment_put}
-use Rattle.yr_image.specs.declared.fault.ImageFault.TheVariants.{Index, Node}
+use Rattle.yr_image.specs.declared.fault.ImageFault.TheVariants.{Node}
 use Rattle.yr_image.specs.declared.rows.SplitRow.{SplitRow}
 use Rattle.yr_image.specs.Image.{Image}
-use Rattle.yr_image.specs.Reading.{image_in, zeros_in}
-use Rattle.yr_machine.specs.Rows.{is_good_edge}
+use Rattle.yr_image.specs.Reading.{image_in}
 use Rattle.yr_machine.specs.Wellformed.{IsWellformed}
 use Rattle.yr_machine.specs.Automaton.{IsNode}
-use Rattle.yr_answer.specs.MatchList.{Match}
-use Rattle.yr_search.specs.Taking.{Takes, TakesAll, HasAtomWithin}
+use Rattle.yr_search.specs.Taking.{HasAtomWithin}
 use Rattle.yr_search.specs.Uppers.{own, upper_by, upper, depth_of, costs}
-use Rattle.yr_search.proofs.SideLemmas.{and_first, and_second}
 use Rattle.yr_search.proofs.HitLemmas.{there}
-use Rattle.yr_search.proofs.TakeLemmas.{output_is_split, takes_then}
 
 -- ---- what an image's nodes are
 

@@ -1,27 +1,26 @@
 -- What a good scene says of its automaton, and how much there is of it.
-use Rattle.std.proofs.Common.{◌≡◌, ◌≢◌, ℕ, zero, suc, ◌+◌, ◌-◌, ◌*◌, ◌/◌, ◌<◌, ◌≤◌, List, [], ◌∷◌, length, take, drop, Some, refl, sym, ap, ◌∙◌, subst, arith}
+use Rattle.std.proofs.Common.{◌≡◌, ℕ, zero, suc, ◌+◌, ◌-◌, ◌*◌, ◌<◌, ◌≤◌, List, [], ◌∷◌, length, Some, refl, sym, ap, ◌∙◌, subst, arith}
 use Rattle.std.specs.Prelude.{slice_get}
 use Rattle.std.proofs.Math.Nat.{mul-le-mul_left, mul-le-mul_right}
 use Rattle.yr_rows.specs.Walk.{Asks}
 use Rattle.yr_rows.specs.declared.nodes.NodeRow.{NodeRow}
-use Rattle.yr_rows.specs.declared.nodes.EdgeRow.{EdgeRow}
 use Rattle.yr_rows.specs.Nodes.{nodes_of, edges_of, outputs_of, edge_of, link_of, AreWellformed}
-use Rattle.yr_rows.proofs.ByteLemmas.{node_count, edge_count, output_count}
+use Rattle.yr_rows.proofs.ByteLemmas.{node_count, output_count}
 use Rattle.yr_automaton.specs.Rows.{AreWellformedRows, edge, link}
 use Rattle.yr_automaton.specs.Rows as rows
 use Rattle.yr_answer.specs.MatchList.{Match}
 use Rattle.yr_image.specs.Image.{Image}
 use Rattle.yr_image.specs.Reading.{image_in}
-use Rattle.yr_image.specs.Sections.{HasSections, widths, version_in, rows_of, size_of, place_of, bytes_of}
+use Rattle.yr_image.specs.Sections.{rows_of, bytes_of}
 use Rattle.yr_image.specs.Views.{shown_bytes, image_of}
 use Rattle.yr_machine.specs.Wellformed.{IsWellformed}
 use Rattle.yr_verifier.proofs.CallerLemmas.{has_sections}
 use Rattle.yr_search.specs.declared.hit.Scene.{Scene}
 use Rattle.yr_search.specs.Taking.{IsGoodScene, TakesAll, TakesFronts}
-use Rattle.yr_search.specs.Uppers.{own, upper, costs}
+use Rattle.yr_search.specs.Uppers.{own, upper}
 use Rattle.yr_search.specs.Walked.{repeated}
 use Rattle.yr_search.proofs.SectionLemmas.{section_bytes}
-use Rattle.yr_search.proofs.NodeLemmas.{outputs_cost, costs_count, own_is}
+use Rattle.yr_search.proofs.NodeLemmas.{outputs_cost, costs_count}
 use Rattle.yr_search.proofs.WalkLemmas.{rows_are_wellformed}
 
 -- ---- how many rows an image has

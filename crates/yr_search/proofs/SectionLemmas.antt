@@ -1,16 +1,16 @@
 -- Sections of a wellformed image: how many bytes and rows they have.
-use Rattle.std.proofs.Common.{◌≡◌, ℕ, ◌+◌, ◌*◌, ◌/◌, ◌%◌, ◌<◌, ◌≤◌, List, length, take, drop, Some, None, refl, sym, ap, ◌∙◌, arith}
+use Rattle.std.proofs.Common.{◌≡◌, ℕ, ◌+◌, ◌*◌, ◌<◌, ◌≤◌, List, length, drop, Some, ap, arith}
 use Rattle.std.specs.Prelude.{slice_get, slice_index}
 use Rattle.std.specs.Option.{option_map_or}
 use Rattle.std.proofs.lemmas.List.{length-drop, length-take-le}
 use Rattle.std.proofs.lemmas.Option.{slice_get_past}
-use Rattle.yr_rows.specs.Moves.{moves_in, sets_in, move_row, program_moves, IsWellformedProgram}
-use Rattle.yr_rows.proofs.RowLemmas.{length-rows_in, moves_in-range}
+use Rattle.yr_rows.specs.Moves.{move_row, IsWellformedProgram}
+use Rattle.yr_rows.proofs.RowLemmas.{length-rows_in}
 use Rattle.yr_image.specs.declared.rows.ProgramRow.{ProgramRow}
 use Rattle.yr_image.specs.declared.fault.ImageFault.TheVariants.{ProgramBad}
-use Rattle.yr_image.specs.Image.{Image, moves_of}
+use Rattle.yr_image.specs.Image.{Image}
 use Rattle.yr_image.specs.Reading.{image_in, program_row, string_row}
-use Rattle.yr_image.specs.Sections.{HasSections, widths, version_in, rows_of, size_of, end_of, place_of, bytes_of}
+use Rattle.yr_image.specs.Sections.{HasSections, widths, version_in, rows_of, size_of, place_of, bytes_of}
 use Rattle.yr_machine.specs.Wellformed.{IsWellformed}
 use Rattle.yr_machine.specs.Budget.{moves_count}
 use Rattle.yr_verifier.proofs.CallerLemmas.{has_sections}

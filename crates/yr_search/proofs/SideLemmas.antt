@@ -1,14 +1,12 @@
 -- What the sides of a split's row are, and where they lead.
-use Rattle.std.proofs.Common.{◌≡◌, ◌≢◌, ℕ, zero, suc, ◌+◌, ◌-◌, ◌<◌, ◌≤◌, ◌==◌, ◌&&◌, ◌||◌, ◌⊎◌, inl, inr, ◌↔◌, Bool, true, false, cond, nat_lt, nat_le, IsTrue, IfSome, IfNone, MatchOption, List, [], ◌∷◌, length, take, drop, get_or, Option, Some, None, true≢false, refl, sym, ap, ◌∙◌, subst, arith}
-use Rattle.std.specs.Prelude.{slice_get, slice_index, bit_xor}
+use Rattle.std.proofs.Common.{◌≡◌, ℕ, zero, suc, ◌+◌, ◌<◌, ◌≤◌, ◌==◌, ◌&&◌, ◌||◌, ◌⊎◌, inl, inr, ◌↔◌, Bool, true, false, cond, nat_lt, nat_le, IfSome, IfNone, List, [], ◌∷◌, length, take, drop, Option, Some, None, refl, sym, ap, ◌∙◌, subst, arith}
+use Rattle.std.specs.Prelude.{slice_index}
 use Rattle.std.specs.List.{AllZip}
 use Rattle.std.specs.Int.Bits.{xor_zero_r}
 use Rattle.std.proofs.Math.Seq.{drop-cons}
-use Rattle.std.proofs.lemmas.List.{length-drop}
 use Rattle.std.proofs.lemmas.Bool.Decides.{Decides-eqb}
 use Rattle.std.proofs.lemmas.Bool.{ltb-true, leb-true}
 use Rattle.yr_base.specs.Bytes.{SameLetter}
-use Rattle.yr_rows.specs.Moves.{move_at}
 use Rattle.yr_rows.specs.Accepts.{ReadsForwards, ReadsBackwards, Does, Run, Accepts, AcceptsBackwards}
 use Rattle.yr_rows.specs.declared.moves.MoveRow.{MoveRow}
 use Rattle.yr_rows.specs.declared.moves.Move.{Move}
@@ -18,7 +16,7 @@ use Rattle.yr_image.specs.declared.rows.SplitRow.{SplitRow}
 use Rattle.yr_image.specs.Image.{Image, in_pool, pool_text, moves_of}
 use Rattle.yr_machine.specs.Rows.{is_good_side, is_good_split}
 use Rattle.yr_machine.specs.ImageMatches.{Side, Nothing, Literal, Program, side_of, SideSpans, IsReadAs, StandsAt}
-use Rattle.yr_search.specs.Spans.{IsOnly, IsBestOf}
+use Rattle.yr_search.specs.Spans.{IsBestOf}
 
 -- ---- tests
 

@@ -1,5 +1,5 @@
 -- What may be passed over.
-use Rattle.std.proofs.Common.{◌≡◌, ◌≢◌, ℕ, zero, suc, ◌+◌, ◌-◌, ◌*◌, ◌/◌, ◌%◌, ◌<◌, ◌≤◌, ◌⊎◌, inl, inr, Bool, true, false, not, nat_eq, ◌||◌, List, [], ◌∷◌, ◌++◌, length, take, get_or, Option, Some, None, is_some, refl, sym, ap, ap₂, ◌∙◌, subst, arith}
+use Rattle.std.proofs.Common.{◌≡◌, ◌≢◌, ℕ, zero, suc, ◌+◌, ◌-◌, ◌*◌, ◌/◌, ◌%◌, ◌<◌, ◌≤◌, ◌⊎◌, inl, inr, Bool, true, false, not, nat_eq, ◌||◌, List, [], ◌∷◌, ◌++◌, length, take, Option, Some, None, is_some, refl, sym, ap, ap₂, ◌∙◌, subst, arith}
 use Rattle.std.specs.Prelude.{slice_get, slice_index}
 use Rattle.std.proofs.lemmas.Bool.{cases_lt}
 use Rattle.std.proofs.lemmas.Bool.Decides.{nat_tests}
@@ -7,19 +7,18 @@ use Rattle.std.proofs.lemmas.Option.{slice_get-get_or}
 use Rattle.std.proofs.lemmas.List.{nil_from_length}
 use Rattle.std.proofs.Math.Nat.{mul-le-mul_left}
 use Rattle.yr_rows.specs.declared.nodes.NodeRow.{NodeRow}
-use Rattle.yr_rows.specs.Walk.{Asks}
-use Rattle.yr_rows.specs.Nodes.{nodes_of, edges_of, edge_of, link_of}
+use Rattle.yr_rows.specs.Nodes.{edges_of, edge_of}
 use Rattle.yr_automaton.specs.Rows as rows
 use Rattle.yr_answer.specs.MatchList.{Match}
 use Rattle.yr_image.specs.Image.{Image}
 use Rattle.yr_image.specs.Reading.{image_in}
-use Rattle.yr_image.specs.Views.{shown_bytes, image_of}
+use Rattle.yr_image.specs.Views.{image_of}
 use Rattle.yr_machine.specs.Wellformed.{IsWellformed}
 use Rattle.yr_search.specs.declared.hit.Scene.{Scene}
 use Rattle.yr_search.specs.Taking.{IsGoodScene, TakesAll}
 use Rattle.yr_search.specs.Uppers.{own, upper, depth_of, LeadsFrom0}
 use Rattle.yr_search.specs.Walked.{Stands, Walked, IsUpperAfter}
-use Rattle.yr_search.specs.Skips.{IsPassed, IsPairTable, AreFlags}
+use Rattle.yr_search.specs.Skips.{IsPassed, IsPairTable}
 use Rattle.yr_search.proofs.HitLemmas.{there}
 use Rattle.yr_search.proofs.NodeLemmas.{node_is, depth_is, link_is, link_falls, upper_at, own_length}
 use Rattle.yr_search.proofs.WalkLemmas.{stands_step, stands_at, edge_deeper, root_depth, walked_next}

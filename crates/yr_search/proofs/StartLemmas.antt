@@ -1,5 +1,5 @@
 -- The starts of a hit, and the matches that begin there.
-use Rattle.std.proofs.Common.{◌≡◌, ◌≢◌, ℕ, ◌+◌, ◌-◌, ◌*◌, ◌<◌, ◌≤◌, ◌==◌, ◌⊎◌, inl, inr, ◌↔◌, Bool, true, false, MatchBool, IfSome, IfNone, List, [], ◌∷◌, ◌++◌, length, Option, Some, None, true≢false, refl, sym, ap, ◌∙◌, subst, arith}
+use Rattle.std.proofs.Common.{◌≡◌, ℕ, ◌+◌, ◌-◌, ◌*◌, ◌<◌, ◌≤◌, ◌==◌, inl, inr, ◌↔◌, Bool, true, false, List, [], ◌∷◌, ◌++◌, length, Option, Some, None, true≢false, refl, sym, ap, ◌∙◌, subst, arith}
 use Rattle.std.proofs.lemmas.Bool.{cases_lt}
 use Rattle.std.proofs.Math.Nat.{mul-add}
 use Rattle.yr_base.specs.Places.{has_left_border}
@@ -8,14 +8,14 @@ use Rattle.yr_moves.specs.Programs.{moves_of, sets_of}
 use Rattle.yr_moves.specs.Walks as engine
 use Rattle.yr_rows.specs.Accepts.{AcceptsBackwards}
 use Rattle.yr_answer.specs.MatchList.{Match, IsBest}
-use Rattle.yr_image.specs.Image.{Image, pool_text}
+use Rattle.yr_image.specs.Image.{pool_text}
 use Rattle.yr_image.specs.Views.{image_of}
-use Rattle.yr_machine.specs.ImageMatches.{Side, Nothing, Literal, Program, IsReadAs, StandsAt}
+use Rattle.yr_machine.specs.ImageMatches.{Nothing, Literal, Program, IsReadAs, StandsAt}
 use Rattle.yr_search.specs.declared.hit.Hit.{Hit}
 use Rattle.yr_search.specs.declared.hit.Ends.{Ends}
 use Rattle.yr_search.specs.Programs.{IsProgramOf}
 use Rattle.yr_search.specs.Gathering.{DoesFor, Grows}
-use Rattle.yr_search.specs.Spans.{begin_of, IsGoodHit, StartsAt, LeadsTo, EndsAt, IsSpanOf, IsSpanFrom, IsOnly, IsBestOf, AreEnds}
+use Rattle.yr_search.specs.Spans.{begin_of, IsGoodHit, StartsAt, EndsAt, IsSpanOf, IsSpanFrom, IsOnly, IsBestOf, AreEnds}
 use Rattle.yr_search.proofs.SideLemmas.{leads_by, nothing_is, literal_is, program_is, best_as}
 use Rattle.yr_search.proofs.HitLemmas.{fields, program_there, accepts_rows_backwards, leads_up, starts_down}
 use Rattle.yr_search.proofs.GrowLemmas.{grows_none, grows_one, grows_join, grows_as}

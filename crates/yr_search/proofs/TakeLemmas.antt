@@ -1,10 +1,10 @@
 -- Hits that are taken, and what the checks of an image say of its splits.
-use Rattle.std.proofs.Common.{◌≡◌, ◌≢◌, ℕ, zero, suc, ◌+◌, ◌-◌, ◌<◌, ◌≤◌, ◌==◌, ◌⊎◌, inl, inr, ◌↔◌, Bool, true, false, List, [], ◌∷◌, ◌++◌, length, map, set, get_or, Option, Some, None, option_map, refl, sym, ap, ◌∙◌, subst, arith}
-use Rattle.std.specs.Prelude.{slice_get, slice_set, Vec}
+use Rattle.std.proofs.Common.{◌≡◌, ℕ, zero, suc, ◌+◌, ◌<◌, ◌↔◌, Bool, true, List, [], ◌∷◌, ◌++◌, length, set, Some, option_map, refl, sym, ap, ◌∙◌, subst, arith}
+use Rattle.std.specs.Prelude.{slice_get, Vec}
 use Rattle.std.specs.Option.{option_map_or}
 use Rattle.std.proofs.lemmas.Bool.{ltb-true}
 use Rattle.std.specs.declared.alloc.Global.{Global}
-use Rattle.std.proofs.lemmas.Option.{slice_get-map, slice_get-get_or}
+use Rattle.std.proofs.lemmas.Option.{slice_get-map}
 use Rattle.yr_base.specs.declared.border.Border.{Border}
 use Rattle.yr_base.specs.Places.{has_left_border, has_right_border}
 use Rattle.yr_answer.specs.MatchList.{Match}
@@ -13,10 +13,10 @@ use Rattle.yr_image.specs.declared.rows.SplitRow.{SplitRow}
 use Rattle.yr_image.specs.declared.rows.StringRow.{StringRow}
 use Rattle.yr_image.specs.Image.{Image}
 use Rattle.yr_image.specs.Reading.{image_in, zeros_in}
-use Rattle.yr_image.specs.Views.{shown_bytes, image_of}
-use Rattle.yr_machine.specs.Rows.{is_good_split, is_good_output, row_passes}
+use Rattle.yr_image.specs.Views.{image_of}
+use Rattle.yr_machine.specs.Rows.{is_good_split, is_good_output}
 use Rattle.yr_machine.specs.Wellformed.{IsWellformed}
-use Rattle.yr_machine.specs.ImageMatches.{HitSpans, SideSpans, border_of, is_greatest}
+use Rattle.yr_machine.specs.ImageMatches.{SideSpans, border_of, is_greatest}
 use Rattle.yr_matches.specs.Found.{items_of}
 use Rattle.yr_search.specs.declared.hit.Hit.{Hit}
 use Rattle.yr_search.specs.Gathering.{Grows}

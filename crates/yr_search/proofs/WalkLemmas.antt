@@ -1,28 +1,24 @@
 -- The walk, and what it passes.
-use Rattle.std.proofs.Common.{◌≡◌, ◌≢◌, ℕ, zero, suc, ◌+◌, ◌-◌, ◌*◌, ◌<◌, ◌≤◌, ◌==◌, ◌&&◌, ◌⊎◌, inl, inr, Bool, true, false, cond, List, [], ◌∷◌, ◌++◌, length, take, drop, get_or, Option, Some, None, refl, sym, ap, ◌∙◌, subst, arith, length-append}
+use Rattle.std.proofs.Common.{◌≡◌, ℕ, zero, suc, ◌+◌, ◌<◌, ◌≤◌, ◌==◌, ◌&&◌, ◌⊎◌, inl, inr, Bool, true, false, cond, List, [], ◌∷◌, ◌++◌, length, take, Option, Some, refl, sym, ap, ◌∙◌, subst, arith, length-append}
 use Rattle.std.specs.Prelude.{slice_get, nat_le, nat_lt}
 use Rattle.std.specs.Option.{option_map_or, option_and_then}
-use Rattle.std.proofs.Math.Nat.{mul-add}
-use Rattle.std.proofs.lemmas.List.{nil_from_length}
-use Rattle.std.proofs.lemmas.Bool.{cases_lt, ltb-true, leb-true}
-use Rattle.std.proofs.lemmas.Option.{slice_get_within, slice_get_past}
+use Rattle.std.proofs.lemmas.Bool.{ltb-true, leb-true}
 use Rattle.yr_rows.specs.declared.nodes.NodeRow.{NodeRow}
 use Rattle.yr_rows.specs.declared.nodes.EdgeRow.{EdgeRow}
 use Rattle.yr_rows.specs.Walk.{Asks, Walks}
-use Rattle.yr_rows.specs.Nodes.{edge_of, link_of, own_of, edges_at, target_in, Each, AreWellformed, IsEdge}
+use Rattle.yr_rows.specs.Nodes.{edge_of, link_of, edges_at, target_in, AreWellformed, IsEdge}
 use Rattle.yr_answer.specs.MatchList.{Match}
 use Rattle.yr_image.specs.declared.fault.ImageFault.TheVariants.{Index}
 use Rattle.yr_image.specs.Image.{Image}
-use Rattle.yr_image.specs.Reading.{image_in, zeros_in}
+use Rattle.yr_image.specs.Reading.{image_in}
 use Rattle.yr_machine.specs.Rows.{is_good_edge}
 use Rattle.yr_machine.specs.Wellformed.{IsWellformed}
-use Rattle.yr_machine.specs.Budget.{output_cost}
-use Rattle.yr_search.specs.Taking.{TakesAll, TakesFronts}
-use Rattle.yr_search.specs.Uppers.{own, upper, depth_of, costs, LeadsFrom0}
-use Rattle.yr_search.specs.Walked.{IsUpperAfter, AreFronts, Stands, total, Walked, repeated, front_cost}
+use Rattle.yr_search.specs.Taking.{TakesAll}
+use Rattle.yr_search.specs.Uppers.{upper, depth_of, LeadsFrom0}
+use Rattle.yr_search.specs.Walked.{IsUpperAfter, AreFronts, Stands, total, Walked}
 use Rattle.yr_search.proofs.SideLemmas.{and_first, and_second}
 use Rattle.yr_search.proofs.HitLemmas.{there}
-use Rattle.yr_search.proofs.NodeLemmas.{node_is, depth_is, link_is, links_fall, link_falls, upper_at, upper_root, outputs_cost, costs_count}
+use Rattle.yr_search.proofs.NodeLemmas.{node_is, depth_is, link_is, link_falls}
 use Rattle.yr_search.proofs.TakeLemmas.{fronts_more}
 
 -- ---- one byte more

@@ -1,5 +1,5 @@
 -- The spans that one hit gives, by the two sides of its split.
-use Rattle.std.specs.Prelude.{◌≡◌, ℕ, ◌+◌, ◌-◌, ◌^◌, ◌<◌, ◌≤◌, Bool, true, false, List, length, MatchOption, Option, Some}
+use Rattle.std.specs.Prelude.{◌≡◌, ℕ, ◌-◌, ◌^◌, ◌<◌, ◌≤◌, Bool, true, false, List, length, MatchOption, Option, Some}
 use Rattle.yr_base.specs.declared.border.Border.{Border}
 use Rattle.yr_base.specs.Places.{has_left_border, has_right_border}
 use Rattle.yr_answer.specs.MatchList.{IsBest}

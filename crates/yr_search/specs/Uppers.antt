@@ -1,5 +1,5 @@
 -- The outputs at a node of an image's automaton: those of node 0, which every front has, and the others.
-use Rattle.std.specs.Prelude.{◌≡◌, ℕ, zero, suc, ◌+◌, ◌==◌, if◌then◌else◌, List, [], ◌∷◌, ◌++◌, slice_get}
+use Rattle.std.specs.Prelude.{ℕ, zero, suc, ◌+◌, ◌==◌, if◌then◌else◌, List, [], ◌∷◌, ◌++◌, slice_get}
 use Rattle.std.specs.Option.{option_map_or}
 use Rattle.yr_rows.specs.Walk.{Walks}
 use Rattle.yr_rows.specs.Nodes.{edge_of, link_of, own_of}

@@ -1,5 +1,5 @@
 -- How far a search has come: the hits of the fronts that are done, and where it stands.
-use Rattle.std.specs.Prelude.{◌≡◌, ◌≢◌, ℕ, zero, suc, ◌+◌, ◌*◌, ◌<◌, ◌≤◌, ◌⊎◌, List, [], ◌∷◌, length, take, Some, None, slice_get}
+use Rattle.std.specs.Prelude.{◌≡◌, ◌≢◌, ℕ, zero, suc, ◌+◌, ◌<◌, ◌⊎◌, List, [], ◌∷◌, length, take, Some, None, slice_get}
 use Rattle.yr_rows.specs.Nodes.{edge_of, link_of}
 use Rattle.yr_answer.specs.MatchList.{Match}
 use Rattle.yr_image.specs.Image.{Image}

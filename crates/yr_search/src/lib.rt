@@ -15,6 +15,7 @@ mod settling;
 mod skipping;
 mod skips;
 mod starting;
+mod stepping;
 mod taking;
 mod walking;
 

@@ -49,6 +49,7 @@ pub(crate) fn take_own<L: Ledger>(
 }
 
 /// Takes the hits of the outputs at a node but for those of node 0, and says how many there are.
+#[inline(never)]
 pub(crate) fn take_upper<L: Ledger>(
     scene: &Scene<'_>,
     node: u32,

@@ -7,6 +7,7 @@ ghost use Rattle.yr_search.specs.Taking.{IsGoodScene};
 
 use crate::hit::Scene;
 use crate::skips::Skips;
+use crate::stepping::first_rows;
 use std::alloc::Global;
 use yr_base::NoMemory;
 use yr_rows::node_at;
@@ -69,11 +70,34 @@ pub(crate) fn skips_of(alloc: Global, scene: &Scene<'_>) -> Result<Skips, NoMemo
 {
     let live = pair_table(alloc, scene)?;
     let flags = output_flags(alloc, scene)?;
-    Ok(Skips { live, flags })
+    let rows = first_rows(alloc, scene)?;
+    Ok(Skips { live, flags, rows })
 }
 
-/// The least place from `from` on whose pair of bytes is live, or else the last place.
-pub(crate) fn next_live(table: &[bool], file: &[u8], from: usize) -> usize
+// Whether a place's pair of bytes is live.
+fn is_live_at(table: &[bool], file: &[u8], at: usize) -> bool
+    requires long { length table.now ≡ 65536 }
+    requires at { at + 1 < length file.now }
+    ensures { slice_get table.now (slice_index file.now at * 256 + slice_index file.now (at + 1)) ≡ Some result }
+{
+    table[file[at] as usize * 256 + file[at + 1] as usize]
+}
+
+// Whether the pair of one of four places is live.
+fn is_any_live(table: &[bool], file: &[u8], at: usize) -> bool
+    requires long { length table.now ≡ 65536 }
+    requires at { at + 4 < length file.now }
+    ensures { result ≡ false → (k : ℕ) → at ≤ k → k < at + 4
+        → slice_get table.now (slice_index file.now k * 256 + slice_index file.now (k + 1)) ≡ Some false }
+{
+    is_live_at(table, file, at)
+        | is_live_at(table, file, at + 1)
+        | is_live_at(table, file, at + 2)
+        | is_live_at(table, file, at + 3)
+}
+
+// A place from `from` on before which no pair is live, four places at a time.
+fn pass_fours(table: &[bool], file: &[u8], from: usize) -> usize
     requires long { length table.now ≡ 65536 }
     requires from { from < length file.now }
     ensures low { from ≤ result }
@@ -83,7 +107,26 @@ pub(crate) fn next_live(table: &[bool], file: &[u8], from: usize) -> usize
 {
     let last = file.len() - 1;
     let mut at = from;
-    while at < last && !table[file[at] as usize * 256 + file[at + 1] as usize] {
+    while last - at >= 4 && !is_any_live(table, file, at) {
+        at += 4;
+    }
+    at
+}
+
+/// The least place from `from` on whose pair of bytes is live, or else the last place.
+// Apart from its callers the loop keeps its places in registers.
+#[inline(never)]
+pub(crate) fn next_live(table: &[bool], file: &[u8], from: usize) -> usize
+    requires long { length table.now ≡ 65536 }
+    requires from { from < length file.now }
+    ensures low { from ≤ result }
+    ensures high { result < length file.now }
+    ensures passed { (k : ℕ) → from ≤ k → k < result
+        → slice_get table.now (slice_index file.now k * 256 + slice_index file.now (k + 1)) ≡ Some false }
+{
+    let last = file.len() - 1;
+    let mut at = pass_fours(table, file, from);
+    while at < last && !is_live_at(table, file, at) {
         at += 1;
     }
     at

@@ -14,6 +14,7 @@ use crate::hit::Scene;
 use crate::node::{take_own, take_upper};
 use crate::skipping::next_live;
 use crate::skips::Skips;
+use crate::stepping::step;
 use std::sync::ledger::Ledger;
 use yr_base::{NoMemory, Steps};
 use yr_moves::Marks;
@@ -98,6 +99,7 @@ fn take_flagged<L: Ledger>(
 }
 
 /// Walks over the file, and takes the hits of all outputs but those of node 0.
+#[inline(never)]
 pub(crate) fn walk<L: Ledger>(
     scene: &Scene<'_>,
     skips: &Skips,
@@ -125,7 +127,7 @@ pub(crate) fn walk<L: Ledger>(
     let mut at = 0;
     'along: while at < scene.file.len() {
         let place = place_from(skips, scene.file, node, at);
-        node = scene.automaton.step(node, scene.file[place], steps);
+        node = step(scene, skips, node, scene.file[place], steps);
         at = place + 1;
         count += take_flagged(scene, skips, node, at, marks, lists, steps)?;
     }

@@ -1,4 +1,4 @@
-use Rattle.std.proofs.Common.{pos, int_lt, arith, rules}
+use Rattle.std.proofs.Common.{pos, int_lt, rules}
 use Rattle.std.proofs.lemmas.List.Sorted.{IsPartitionPoint-from_clause}
 use Rattle.yr_matches.proofs.ListLemmas.{partitioned_before, count_at}
 use Rattle.yr_matches.proofs.list.count_before.Goals as goal

@@ -1,4 +1,4 @@
-use Rattle.std.proofs.Common.{pos, int_le, arith, rules}
+use Rattle.std.proofs.Common.{pos, int_le, rules}
 use Rattle.std.proofs.lemmas.List.Sorted.{IsPartitionPoint-from_clause}
 use Rattle.yr_matches.proofs.ListLemmas.{partitioned_up_to, count_at}
 use Rattle.yr_matches.proofs.list.count_up_to.Goals as goal

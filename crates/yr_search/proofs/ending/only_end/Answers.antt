@@ -1,7 +1,6 @@
-use Rattle.std.proofs.Common.{◌+◌, length, sym, subst, Some}
 use Rattle.std.proofs.lemmas.Bool.Decides.{Decides-eqb}
 use Rattle.yr_image.specs.Views.{image_of}
-use Rattle.yr_search.proofs.HitLemmas.{fields, literal_there, end_literal, end_no_literal}
+use Rattle.yr_search.proofs.HitLemmas.{fields, literal_there, end_literal}
 use Rattle.yr_search.proofs.ending.only_end.Goals as goal
 
 pub pool-bytes-requires : goal.pool-bytes-requires

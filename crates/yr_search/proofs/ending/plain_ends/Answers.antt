@@ -1,5 +1,5 @@
 use Rattle.std.proofs.Common.{arith}
-use Rattle.yr_search.proofs.HitLemmas.{leads_up, no_ends, one_end, one_far_end}
+use Rattle.yr_search.proofs.HitLemmas.{leads_up, no_ends}
 use Rattle.yr_search.proofs.ending.plain_ends.Goals as goal
 
 pub returns-in_default-clause-ends : goal.returns-in_default-clause-ends

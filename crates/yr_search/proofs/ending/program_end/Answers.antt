@@ -1,4 +1,4 @@
-use Rattle.std.proofs.Common.{length, arith}
+use Rattle.std.proofs.Common.{length}
 use Rattle.yr_image.specs.Views.{image_of}
 use Rattle.yr_moves.specs.Programs.{moves_of}
 use Rattle.yr_machine.specs.Budget.{moves_count}

@@ -1,4 +1,3 @@
-use Rattle.std.proofs.Common.{◌≡◌, None, arith}
 use Rattle.yr_search.proofs.HitLemmas.{near_best, far_best, far_none}
 use Rattle.yr_search.proofs.ending.program_ends.Goals as goal
 

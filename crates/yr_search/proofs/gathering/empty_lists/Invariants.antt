@@ -1,4 +1,4 @@
-use Rattle.std.proofs.Common.{◌≡◌, List, [], All, length}
+use Rattle.std.proofs.Common.{◌≡◌, [], All, length}
 use Rattle.yr_search.proofs.gathering.empty_lists.Given as goal
 
 abbrev pub invariant-loop-k : goal.invariant-loop-k

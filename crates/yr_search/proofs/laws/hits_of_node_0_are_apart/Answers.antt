@@ -1,5 +1,5 @@
 use Rattle.yr_search.proofs.NodeLemmas.{outputs_are, links_fall}
-use Rattle.yr_search.proofs.FinalLemmas.{hits_are, apart}
+use Rattle.yr_search.proofs.FinalLemmas.{apart}
 use Rattle.yr_image.specs.Reading.{image_in}
 use Rattle.yr_search.proofs.laws.hits_of_node_0_are_apart.Goals as goal
 

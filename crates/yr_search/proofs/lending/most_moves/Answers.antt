@@ -1,4 +1,4 @@
-use Rattle.std.proofs.Common.{◌≡◌, ◌≤◌, ◌⊎◌, inl, inr, sym, subst, arith}
+use Rattle.std.proofs.Common.{◌≡◌, ◌≤◌, inl, inr, sym, subst, arith}
 use Rattle.yr_machine.specs.Budget.{moves_count}
 use Rattle.yr_image.specs.Views.{shown_bytes, image_of}
 use Rattle.yr_verifier.proofs.CallerLemmas.{has_sections}

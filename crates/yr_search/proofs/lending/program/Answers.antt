@@ -1,10 +1,8 @@
-use Rattle.std.proofs.Common.{◌≡◌, ◌≤◌, length, take, drop, Some, refl, sym, ap, ◌∙◌, subst, arith}
-use Rattle.std.specs.Prelude.{slice_get, ◌+◌, ◌*◌}
+use Rattle.std.proofs.Common.{length, take, drop, ap, ◌∙◌, arith}
+use Rattle.std.specs.Prelude.{◌*◌}
 use Rattle.std.proofs.lemmas.List.{length-drop, length-take-le}
 use Rattle.yr_rows.specs.Moves.{moves_in, sets_in}
-use Rattle.yr_image.specs.Views.{shown_bytes, image_of}
-use Rattle.yr_image.specs.Reading.{image_in}
-use Rattle.yr_image.specs.Sections.{bytes_of}
+use Rattle.yr_image.specs.Views.{shown_bytes}
 use Rattle.yr_verifier.proofs.CallerLemmas.{has_sections}
 use Rattle.yr_search.proofs.SectionLemmas.{section_bytes, program_in_bytes}
 use Rattle.yr_search.proofs.LendingLemmas.{program_of}

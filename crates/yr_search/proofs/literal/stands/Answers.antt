@@ -1,7 +1,7 @@
-use Rattle.std.proofs.Common.{◌≡◌, ◌+◌, ◌≤◌, true, false, length, sym, subst, arith, Bool, IsTrue, ℕ}
+use Rattle.std.proofs.Common.{◌≡◌, ◌+◌, ◌≤◌, false, length, sym, subst, arith}
 use Rattle.std.specs.List.{AllZip}
 use Rattle.yr_base.specs.Bytes.{SameLetter}
-use Rattle.yr_machine.specs.ImageMatches.{IsReadAs, StandsAt}
+use Rattle.yr_machine.specs.ImageMatches.{IsReadAs}
 use Rattle.yr_search.proofs.SideLemmas.{stands_room, stands_by_zip, zip_by_stands, stands_map, folded, keyed}
 use Rattle.yr_search.proofs.literal.stands.Goals as goal
 

@@ -1,8 +1,5 @@
-use Rattle.std.proofs.Common.{◌≡◌, ◌≤◌, ◌<◌, ◌+◌, Some, List, ◌∷◌, length, drop, refl, sym, ap, ◌∙◌, subst, arith}
+use Rattle.std.proofs.Common.{◌≡◌, ◌+◌, Some, ◌∷◌, length, drop, refl, sym, ap, ◌∙◌, subst, arith}
 use Rattle.std.specs.Prelude.{slice_get}
-use Rattle.yr_rows.specs.Nodes.{nodes_of, outputs_of}
-use Rattle.yr_rows.specs.declared.nodes.NodeRow.{NodeRow}
-use Rattle.yr_answer.specs.MatchList.{Match}
 use Rattle.yr_image.specs.Views.{shown_bytes, image_of}
 use Rattle.yr_machine.specs.Budget.{output_cost}
 use Rattle.yr_matches.specs.Found.{items_of}

@@ -1,5 +1,4 @@
-use Rattle.std.proofs.Common.{◌≡◌, ◌≤◌, ◌+◌, ◌*◌, ℕ, List, length, refl, sym, ap, ◌∙◌, subst, arith}
-use Rattle.yr_image.specs.declared.view.ImageView.{ImageView}
+use Rattle.std.proofs.Common.{◌≡◌, ◌≤◌, ◌+◌, length, sym, ap, ◌∙◌, subst}
 use Rattle.yr_image.specs.Reading.{image_in}
 use Rattle.yr_image.specs.Views.{shown_bytes, image_of}
 use Rattle.yr_machine.specs.Budget.{search_budget}
@@ -7,7 +6,6 @@ use Rattle.yr_verifier.specs.Verified.{bytes_of}
 use Rattle.yr_verifier.proofs.CallerLemmas.{has_sections}
 use Rattle.yr_search.specs.Programs.{HasRoom}
 use Rattle.yr_search.specs.FoundIn.{IsFoundIn}
-use Rattle.yr_search.specs.Walked.{front_cost}
 use Rattle.yr_search.proofs.SectionLemmas.{string_rows}
 use Rattle.yr_search.proofs.FinalLemmas.{all_short, all_readable, found_in, within_budget}
 use Rattle.yr_search.proofs.searching.search.Goals as goal

@@ -1,4 +1,4 @@
-use Rattle.std.proofs.Common.{IsTrue, refl, sym, subst, rules}
+use Rattle.std.proofs.Common.{IsTrue, sym, subst, rules}
 use Rattle.yr_answer.specs.MatchList.{RisesFrom}
 use Rattle.yr_search.specs.Gathering.{IsSettled}
 use Rattle.yr_search.proofs.SettleLemmas.{settled_by, settled_already}

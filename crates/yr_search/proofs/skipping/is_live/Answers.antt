@@ -1,4 +1,4 @@
-use Rattle.std.proofs.Common.{◌≡◌, None, Some, sym, ◌∙◌, arith}
+use Rattle.std.proofs.Common.{sym, ◌∙◌}
 use Rattle.yr_image.specs.Views.{shown_bytes, image_of}
 use Rattle.yr_search.proofs.SceneLemmas.{some_nodes, scene_rows, scene_inside, image_inside, scene_node}
 use Rattle.yr_search.proofs.SkipLemmas.{scene_edge, passed_none, passed_node, none_from, own_none}

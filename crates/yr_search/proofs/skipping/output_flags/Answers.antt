@@ -1,7 +1,6 @@
-use Rattle.std.proofs.Common.{◌≡◌, ◌≢◌, ◌<◌, ◌≤◌, ◌+◌, ◌++◌, ◌∷◌, [], Bool, Some, false, inl, inr, ℕ, length, refl, sym, ap, ◌∙◌, subst, arith, length-append}
+use Rattle.std.proofs.Common.{◌≡◌, ◌≢◌, ◌∷◌, [], Some, false, inl, inr, length, refl, sym, ap, ◌∙◌, subst, arith, length-append}
 use Rattle.std.specs.Prelude.{slice_get}
 use Rattle.std.proofs.lemmas.Option.{slice_get_read}
-use Rattle.std.proofs.lemmas.Bool.Decides.{nat_tests}
 use Rattle.yr_image.specs.Views.{shown_bytes, image_of}
 use Rattle.yr_search.specs.Uppers.{upper}
 use Rattle.yr_search.proofs.NodeLemmas.{link_falls}

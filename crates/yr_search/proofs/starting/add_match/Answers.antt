@@ -3,7 +3,7 @@ use Rattle.yr_base.specs.Places.{has_left_border}
 use Rattle.yr_answer.specs.MatchList.{Match}
 use Rattle.yr_search.specs.Gathering.{Grows}
 use Rattle.yr_search.specs.Spans.{IsSpanFrom}
-use Rattle.yr_search.proofs.StartLemmas.{starts_within, no_border, no_end, one_match}
+use Rattle.yr_search.proofs.StartLemmas.{starts_within, no_end, one_match}
 use Rattle.yr_search.proofs.starting.add_match.Goals as goal
 
 pub returns-in_default-clause-grows : goal.returns-in_default-clause-grows

@@ -1,13 +1,12 @@
-use Rattle.std.proofs.Common.{◌≡◌, ◌+◌, ◌≤◌, ◌↔◌, ℕ, List, length, sym, ap, ◌∙◌, subst, arith}
+use Rattle.std.proofs.Common.{◌≡◌, ◌+◌, ◌↔◌, ℕ, length, sym, ap, ◌∙◌, subst, arith}
 use Rattle.yr_rows.specs.Accepts.{AcceptsBackwards}
-use Rattle.yr_answer.specs.MatchList.{Match}
 use Rattle.yr_image.specs.Views.{image_of}
 use Rattle.yr_moves.specs.Walks.{Walk}
 use Rattle.yr_machine.specs.Budget.{moves_count}
 use Rattle.yr_search.specs.Gathering.{Grows}
 use Rattle.yr_search.specs.Spans.{begin_of, StartsAt}
 use Rattle.yr_search.proofs.HitLemmas.{fields, program_there}
-use Rattle.yr_search.proofs.StartLemmas.{Finds, SpansFrom, program_starts, none_yet, one_more, all_done, finds_keep, paid_start, Paid, step_cost, paid_more, paid_all, paid_last}
+use Rattle.yr_search.proofs.StartLemmas.{SpansFrom, program_starts, none_yet, one_more, all_done, finds_keep, paid_start, Paid, step_cost, paid_more, paid_all, paid_last}
 use Rattle.yr_search.proofs.starting.add_starts.Goals as goal
 
 pub program-rows-requires-clause-inside : goal.program-rows-requires-clause-inside

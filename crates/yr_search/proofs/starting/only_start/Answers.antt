@@ -2,7 +2,7 @@ use Rattle.std.proofs.Common.{sym, true≢false, ◌∙◌}
 use Rattle.std.proofs.lemmas.Bool.Decides.{Decides-eqb}
 use Rattle.yr_image.specs.Views.{image_of}
 use Rattle.yr_search.proofs.HitLemmas.{fields, literal_there}
-use Rattle.yr_search.proofs.StartLemmas.{start_literal, no_start_room, no_start_there}
+use Rattle.yr_search.proofs.StartLemmas.{start_literal, no_start_there}
 use Rattle.yr_search.proofs.starting.only_start.Goals as goal
 
 pub pool-bytes-requires : goal.pool-bytes-requires

@@ -1,5 +1,4 @@
 use Rattle.std.proofs.Common.{◌≡◌, Some, false, [], length, refl, sym, ap, ◌∙◌, subst, arith, rules}
-use Rattle.std.specs.Prelude.{slice_get}
 use Rattle.std.proofs.lemmas.Option.{slice_get_read}
 use Rattle.yr_image.specs.Views.{image_of}
 use Rattle.yr_matches.specs.Found.{items_of}

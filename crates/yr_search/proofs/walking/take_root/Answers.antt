@@ -1,13 +1,10 @@
-use Rattle.std.proofs.Common.{◌≡◌, ◌≤◌, ◌<◌, ◌+◌, ◌-◌, ◌*◌, Some, List, [], ◌∷◌, length, refl, sym, ap, ◌∙◌, subst, arith}
-use Rattle.std.specs.Prelude.{slice_get}
+use Rattle.std.proofs.Common.{◌≡◌, ◌≤◌, ◌+◌, ◌*◌, [], length, refl, sym, ap, ◌∙◌, subst, arith}
 use Rattle.std.proofs.lemmas.List.{nil_from_length}
-use Rattle.yr_answer.specs.MatchList.{Match}
 use Rattle.yr_image.specs.Views.{shown_bytes, image_of}
 use Rattle.yr_machine.specs.Budget.{output_cost}
 use Rattle.yr_matches.specs.Found.{items_of}
 use Rattle.yr_search.specs.Taking.{TakesFronts}
-use Rattle.yr_search.specs.Uppers.{own, costs, depth_of}
-use Rattle.yr_search.specs.Walked.{repeated}
+use Rattle.yr_search.specs.Uppers.{own, costs}
 use Rattle.yr_search.proofs.NodeLemmas.{own_length}
 use Rattle.yr_search.proofs.WalkLemmas.{root_depth}
 use Rattle.yr_search.proofs.SceneLemmas.{some_nodes, few_own, scene_inside, scene_node, nothing_taken, repeated_next, repeated_done, times_more, times_bound}

@@ -1,5 +1,4 @@
-use Rattle.std.proofs.Common.{◌≡◌, ◌≤◌, ◌<◌, ◌+◌, ◌-◌, ◌*◌, ℕ, Some, List, ◌∷◌, length, get_or, refl, sym, ap, ◌∙◌, subst, arith}
-use Rattle.std.specs.Prelude.{slice_get}
+use Rattle.std.proofs.Common.{◌≡◌, ◌+◌, ◌*◌, ℕ, length, get_or, refl, sym, ap, ◌∙◌, subst, arith}
 use Rattle.yr_image.specs.Views.{shown_bytes, image_of}
 use Rattle.std.proofs.lemmas.Option.{slice_get-get_or}
 use Rattle.yr_machine.specs.Budget.{output_cost}
@@ -9,14 +8,8 @@ use Rattle.yr_search.specs.Walked.{Walked, front_cost}
 use Rattle.yr_search.proofs.NodeLemmas.{outputs_cost}
 use Rattle.yr_search.proofs.WalkLemmas.{stands_first, stands_step, stands_at, asks_depth, root_depth, walked_first, walked_next}
 use Rattle.yr_search.proofs.SkipLemmas.{pass_to, paid_pass}
-use Rattle.yr_search.proofs.SceneLemmas.{some_nodes, few_upper, scene_rows, scene_inside, image_inside, scene_asks, scene_node, paid_front, paid_to_end}
+use Rattle.yr_search.proofs.SceneLemmas.{some_nodes, few_upper, paid_front, paid_to_end}
 use Rattle.yr_search.proofs.walking.walk.Goals as goal
-
-pub step-node-requires-clause-wellformed : goal.step-node-requires-clause-wellformed
-step-node-requires-clause-wellformed g c = scene_rows c.args.scene.now c.requires.scene
-
-pub step-node-requires-clause-inside : goal.step-node-requires-clause-inside
-step-node-requires-clause-inside g c = scene_inside c.args.scene.now c.requires.scene c.along.node c.along.invariant.inside
 
 pub along-init : goal.along-init
 along-init g c =
@@ -40,21 +33,21 @@ pub take_flagged-requires-clause-depth : goal.take_flagged-requires-clause-depth
 take_flagged-requires-clause-depth g c =
     let scene = c.args.scene.now in
     let bytes = shown_bytes scene.view.now in
-    let inside = image_inside scene c.requires.scene c.step-node.result c.step-node.ensures.inside in
-    let asks = scene_asks scene c.requires.scene _ c.along.node _ c.step-node.result c.step-node.ensures.asks in
+    let inside = c.step-node.ensures.leads.2 in
+    let asks = c.step-node.ensures.leads.1 in
     let deep = asks_depth bytes c.requires.scene.wellformed _ c.along.node _ c.step-node.result c.along.invariant.inside inside asks in
     omega (arith, deep, c.along.invariant.deep, c.place_from-place.ensures.low)
 
 pub take_flagged-requires-clause-few : goal.take_flagged-requires-clause-few
 take_flagged-requires-clause-few g c =
     let scene = c.args.scene.now in
-    let inside = image_inside scene c.requires.scene c.step-node.result c.step-node.ensures.inside in
+    let inside = c.step-node.ensures.leads.2 in
     omega (arith, few_upper (shown_bytes scene.view.now) c.requires.scene.wellformed c.step-node.result inside)
 
 pub overflow_add-count : goal.overflow_add-count
 overflow_add-count g c =
     let scene = c.args.scene.now in
-    let inside = image_inside scene c.requires.scene c.step-node.result c.step-node.ensures.inside in
+    let inside = c.step-node.ensures.leads.2 in
     let few = few_upper (shown_bytes scene.view.now) c.requires.scene.wellformed c.step-node.result inside in
     omega (arith, few, c.along.invariant.small, c.in_ok-count.ensures.count, c.along-test.true, c.requires.scene.small)
 
@@ -65,12 +58,12 @@ returns-in_err-count-clause-most_cost g c =
     let bytes = shown_bytes scene.view.now in
     let n = length scene.file.now in
     let q = c.place_from-place.result in
-    let inside = image_inside scene c.requires.scene c.step-node.result c.step-node.ensures.inside in
+    let inside = c.step-node.ensures.leads.2 in
     let share = outputs_cost bytes c.requires.scene.wellformed (output_cost image n) c.step-node.result inside in
     let root = costs (output_cost image n) (own image 0) in
     let passed = paid_pass c.along.at q root (front_cost image n) c.args.steps.now c.along.steps c.place_from-place.ensures.low (omega (arith, share)) c.along.invariant.most in
     paid_to_end q n root (front_cost image n) (costs (output_cost image n) (upper image c.step-node.result))
-    c.args.steps.now c.along.steps c.step-node.new.steps c.take_flagged.new.steps passed c.step-node.ensures.most c.in_err-count.ensures.most_cost share c.place_from-place.ensures.high
+    c.args.steps.now c.along.steps c.step-node.new.steps c.take_flagged.new.steps passed (omega (arith, c.step-node.ensures.cost)) c.in_err-count.ensures.most_cost share c.place_from-place.ensures.high
 
 pub along-preserved : goal.along-preserved
 along-preserved g c =
@@ -88,8 +81,8 @@ along-preserved g c =
     let now = items_of c.along.lists.items in
     let come = pass_to bytes c.requires.scene.wellformed file c.args.skips.now.live.items c.requires.skips.pairs place.bytes c.along.at q c.along.node old now c.along.count
     place.low place.high place.passed inv.stands inv.walked in
-    let inside = image_inside scene c.requires.scene x c.step-node.ensures.inside in
-    let asks = scene_asks scene c.requires.scene _ c.along.node _ x c.step-node.ensures.asks in
+    let inside = c.step-node.ensures.leads.2 in
+    let asks = c.step-node.ensures.leads.1 in
     let deep = asks_depth bytes c.requires.scene.wellformed _ c.along.node _ x inv.inside inside asks in
     let here = slice_get-get_or file q 0 place.high in
     let leads = stands_step bytes c.requires.scene.wellformed file q c.along.node (get_or file q 0) x _ come.0 here inside asks in
@@ -107,9 +100,9 @@ along-preserved g c =
       room = one.room ∙ inv.room;
       lists = one.lists ∙ inv.lists;
       small = omega (arith, inv.small, few, one.count, place.low);
-      least = omega (arith, inv.least, c.step-node.ensures.least, one.least_cost);
+      least = omega (arith, inv.least, c.step-node.ensures.cost, one.least_cost);
       most = paid_front q root (front_cost image n) (costs (output_cost image n) (upper image x))
-          c.args.steps.now c.along.steps c.step-node.new.steps c.take_flagged.new.steps passed c.step-node.ensures.most one.most_cost share;
+          c.args.steps.now c.along.steps c.step-node.new.steps c.take_flagged.new.steps passed (omega (arith, c.step-node.ensures.cost)) one.most_cost share;
     }
 
 pub returns-clause-walked : goal.returns-clause-walked

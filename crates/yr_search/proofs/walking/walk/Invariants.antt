@@ -1,4 +1,4 @@
-use Rattle.std.proofs.Common.{◌≡◌, ◌+◌, ◌-◌, ◌*◌, ◌<◌, ◌≤◌, List, length}
+use Rattle.std.proofs.Common.{◌≡◌, ◌+◌, ◌-◌, ◌*◌, ◌<◌, ◌≤◌, length}
 use Rattle.yr_image.specs.Views.{image_of}
 use Rattle.yr_machine.specs.Budget.{output_cost}
 use Rattle.yr_matches.specs.Found.{items_of}

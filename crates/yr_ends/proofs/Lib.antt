@@ -1,0 +1,8 @@
+pub mod ListLemmas
+mod KeptLemmas
+mod ChainLemmas
+pub mod HoldLemmas
+pub mod JoinLemmas
+mod FollowLemmas
+pub mod SpreadLemmas
+mod EndLemmas

@@ -1,0 +1,4 @@
+pub mod Carried
+pub mod Arcs
+pub mod Spreads
+pub mod EndWalks

@@ -1,0 +1,4 @@
+pub mod Findings
+pub mod Placed
+pub mod Unused
+pub mod TextSizes

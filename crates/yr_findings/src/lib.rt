@@ -1,0 +1,26 @@
+//! What the checks on rules find: in names, strings, patterns and what a condition uses; and the strings as they are checked.
+#![tactic(auto)]
+
+mod copying;
+mod expressions;
+mod finding;
+mod items;
+mod names_twice;
+mod read_string;
+mod strings;
+mod tables;
+mod text_sizes;
+mod texts;
+mod unused;
+mod used;
+
+pub use copying::{copy_bytes, copy_externals, copy_meta, copy_tags};
+pub use expressions::{ExpressionFindings, first_expression_findings};
+pub use finding::{Finding, Named, found, named_bytes, string_name, where_true};
+pub use items::{Placed, placed_items};
+pub use names_twice::{has_front, string_twice, tag_twice};
+pub use strings::{StringFindings, checked_strings, string_findings};
+pub use tables::{external_names, string_names, wildcards};
+pub use texts::{first_bad_modifiers, first_empty};
+pub use unused::first_unused;
+pub use used::{first_unknown_name, first_unknown_string, some_deep, some_long};

@@ -1,0 +1,488 @@
+//! Conditions with a number for each name.
+
+ghost use Rattle.std.specs.Prelude.{◌≡◌, ◌+◌, ◌≤◌, ◌<◌, ◌^◌, [], ◌∷◌, IfOk, OnOk, length, map, max};
+ghost use Rattle.std.specs.Bool.{OnTrue};
+ghost use Rattle.std.specs.Option.{option_map};
+ghost use Rattle.yr_pattern.specs.Tree.{tree_of as pattern_of};
+ghost use Rattle.yr_rules.specs.NodeTree.{tree_of, asked_of, where_of, domain_of, bounds_of, links_of, link_of, items_of};
+ghost use Rattle.yr_syntax.specs.Condition as tree;
+ghost use Rattle.yr_syntax.specs.Forms as forms;
+ghost use Rattle.yr_syntax.specs.Height as height;
+ghost use Rattle.yr_uses.specs.Around.{around_of};
+ghost use Rattle.yr_uses.specs.Views.{shown};
+ghost use Rattle.yr_nodes.specs.Fixed.{the_readers};
+ghost use Rattle.yr_nodes.specs.Nodes as spec;
+ghost use Rattle.yr_nodes.specs.Room.{IsRoomy};
+ghost use Rattle.yr_nodes.specs.Readers.{expression_of};
+ghost use Rattle.yr_rules.specs.NodeTree as node;
+ghost use Rattle.yr_nodes.specs.Shapes as shape;
+ghost use Rattle.yr_nodes.specs.Steps.{OneHasForms, one_height, one_written};
+ghost use Rattle.yr_nodes.specs.Views.{bounds, written_of, IsLow};
+
+use crate::making::{
+    asked_number, asked_percent, chain, count, count_in, for_in, for_of, found, length, length_at,
+    matches, of, offset, offset_at, over_list, over_range, place_at, place_within, range_of, read,
+};
+use crate::naming::{kept_members, string_ref};
+use crate::prefix::{prefixes, wrap};
+use crate::reading::{RegexAnswer, regex_answer};
+use crate::valued::value;
+use std::alloc::Global;
+use yr_base::NoMemory;
+use yr_rules::{Node, NodeLink, NodeOver, NodePlace, NodeQuant, NodeRange, Pattern, PrefixOp};
+use yr_syntax::{Cond, Link, Over, PathStep, Place, Quant, Range, RegexText};
+use yr_uses::{Around, Meaning, Scope, Scopes, opened, path_meaning, then_step, word_meaning};
+
+/// The pattern of an expression, where it can be read.
+fn pattern(alloc: Global, regex: &RegexText) -> Result<Option<Pattern>, NoMemory>
+    requires { forms.IsShortText regex.now.text.items }
+    ensures { IfOk result (λ p. option_map pattern_of p ≡ spec.regex_node (expression_of the_readers (tree.regex_of regex.now))) }
+{
+    match regex_answer(alloc, &regex.text, regex.nocase, regex.dot_all)? {
+        RegexAnswer::Expression { pattern, .. } => Ok(Some(pattern)),
+        _ => Ok(None),
+    }
+}
+
+/// One condition that is written.
+fn one(alloc: Global, index: Option<Node>) -> Result<Vec<Option<Node>>, NoMemory>
+    ensures { IfOk result (λ all. all.items ≡ index ∷ []) }
+{
+    let mut all = Vec::new(alloc);
+    all.push(index)?;
+    Ok(all)
+}
+
+/// The numbers of an entry's loop go to the entries of an array.
+fn over_entries(meaning: Meaning<'_>) -> Option<NodeOver>
+    ensures { option_map domain_of result ≡ spec.entries_node (shown meaning.entry) }
+{
+    match meaning {
+        Meaning::Array { count, .. } => Some(NodeOver::Entries(count)),
+        _ => None,
+    }
+}
+
+/// What is made of a condition where these loops are open.
+#[cycle(nodes)]
+fn node<'a>(
+    alloc: Global,
+    exact: bool,
+    around: &Around<'_, 'a>,
+    condition: &'a Cond,
+    scopes: &mut Scopes<'a>,
+) -> Result<Option<Node>, NoMemory>
+    requires room { IsRoomy exact around.now }
+    requires forms { forms.HasForms (tree.tree_of condition.now) }
+    requires low { height.height (tree.tree_of condition.now) + length scopes.old ≤ forms.height_limit }
+    ensures scopes { OnOk result (scopes.new ≡ scopes.old) }
+    ensures node { IfOk result (λ n. option_map tree_of n ≡ shape.shape_of exact the_readers (around_of around.now) (tree.tree_of condition.now) scopes.old) }
+{
+    match condition {
+        Cond::Number(number) => Ok(Some(Node::Number(*number))),
+        Cond::Text(text) => Ok(Some(Node::Text(Vec::from_slice(alloc, text)?))),
+        Cond::Flag(flag) => Ok(Some(Node::Flag(*flag))),
+        Cond::FileSize => Ok(Some(Node::FileSize)),
+        Cond::Path(steps) => path(alloc, exact, around, steps, scopes),
+        Cond::Found { name, place } => {
+            let string = string_ref(exact, around, name, scopes);
+            Ok(found(string, node_place(alloc, exact, around, place, scopes)?))
+        }
+        Cond::Count { name, range } => node_count(alloc, exact, around, name, range, scopes),
+        Cond::Offset { name, index } => node_offset(alloc, exact, around, name, index, scopes),
+        Cond::Length { name, index } => node_length(alloc, exact, around, name, index, scopes),
+        Cond::Read { reader, at } => {
+            let at = node(alloc, exact, around, at, scopes)?;
+            read(alloc, *reader, at)
+        }
+        Cond::Prefix { op, inner } => node_run(alloc, exact, around, *op, inner, scopes),
+        Cond::Chain { first, rest } => {
+            let first = node(alloc, exact, around, first, scopes)?;
+            let rest = links(alloc, exact, around, rest, scopes)?;
+            chain(alloc, first, rest)
+        }
+        Cond::Matches { text, regex } => {
+            let text = node(alloc, exact, around, text, scopes)?;
+            matches(alloc, text, pattern(alloc, regex)?)
+        }
+        Cond::Of { quant, set, place } => {
+            let asked = node_asked(alloc, exact, around, quant, scopes)?;
+            let set = kept_members(alloc, exact, around, set)?;
+            Ok(of(asked, set, node_place(alloc, exact, around, place, scopes)?))
+        }
+        Cond::ForOf { quant, set, body } => {
+            let asked = node_asked(alloc, exact, around, quant, scopes)?;
+            let set = kept_members(alloc, exact, around, set)?;
+            scopes.enter(Scope::Members)?;
+            let body = node(alloc, exact, around, body, scopes)?;
+            scopes.leave();
+            for_of(alloc, asked, set, body)
+        }
+        Cond::ForIn {
+            quant,
+            name,
+            over,
+            body,
+        } => {
+            let asked = node_asked(alloc, exact, around, quant, scopes)?;
+            let domain = node_over(alloc, exact, around, over, scopes)?;
+            let inner = opened(around, name, over, scopes);
+            scopes.enter(inner)?;
+            let body = node(alloc, exact, around, body, scopes)?;
+            scopes.leave();
+            for_in(alloc, asked, name, domain, body)
+        }
+    }
+}
+
+/// What is made of a run of prefix operators and what stands behind it.
+#[cycle(nodes)]
+fn node_run<'a>(
+    alloc: Global,
+    exact: bool,
+    around: &Around<'_, 'a>,
+    op: PrefixOp,
+    inner: &'a Cond,
+    scopes: &mut Scopes<'a>,
+) -> Result<Option<Node>, NoMemory>
+    requires room { IsRoomy exact around.now }
+    requires forms { forms.HasForms (tree.tree_of inner.now) }
+    requires low { height.height (tree.tree_of inner.now) + length scopes.old ≤ forms.height_limit }
+    ensures scopes { OnOk result (scopes.new ≡ scopes.old) }
+    ensures node { IfOk result (λ n. option_map tree_of n ≡ option_map (node.Prefix op) (shape.shape_of exact the_readers (around_of around.now) (tree.tree_of inner.now) scopes.old)) }
+{
+    let (ops, operand) = prefixes(alloc, op, inner)?;
+    match node(alloc, exact, around, operand, scopes)? {
+        None => Ok(None),
+        Some(operand) => Ok(Some(wrap(alloc, ops, operand)?)),
+    }
+}
+
+#[cycle(nodes)]
+fn node_range<'a>(
+    alloc: Global,
+    exact: bool,
+    around: &Around<'_, 'a>,
+    range: &'a Range,
+    scopes: &mut Scopes<'a>,
+) -> Result<Option<NodeRange>, NoMemory>
+    requires room { IsRoomy exact around.now }
+    requires forms { forms.HasForms (tree.bounds_of range.now).low × forms.HasForms (tree.bounds_of range.now).high }
+    requires low { max (height.height (tree.bounds_of range.now).low) (height.height (tree.bounds_of range.now).high) + length scopes.old ≤ forms.height_limit }
+    ensures scopes { OnOk result (scopes.new ≡ scopes.old) }
+    ensures node { IfOk result (λ n. option_map bounds_of n ≡ spec.of_two bounds (shape.shape_of exact the_readers (around_of around.now) (tree.bounds_of range.now).low scopes.old) (shape.shape_of exact the_readers (around_of around.now) (tree.bounds_of range.now).high scopes.old)) }
+{
+    let low = node(alloc, exact, around, &range.low, scopes)?;
+    let high = node(alloc, exact, around, &range.high, scopes)?;
+    range_of(alloc, low, high)
+}
+
+/// What is made of a count, in a range or without one.
+#[cycle(nodes)]
+fn node_count<'a>(
+    alloc: Global,
+    exact: bool,
+    around: &Around<'_, 'a>,
+    name: &'a [u8],
+    range: &'a Option<Range>,
+    scopes: &mut Scopes<'a>,
+) -> Result<Option<Node>, NoMemory>
+    requires room { IsRoomy exact around.now }
+    requires forms { forms.HasForms (tree.count_of name.now (option_map tree.bounds_of range.now)) }
+    requires low { height.height (tree.count_of name.now (option_map tree.bounds_of range.now)) + length scopes.old ≤ forms.height_limit }
+    ensures scopes { OnOk result (scopes.new ≡ scopes.old) }
+    ensures node { IfOk result (λ n. option_map tree_of n ≡ shape.shape_of exact the_readers (around_of around.now) (tree.count_of name.now (option_map tree.bounds_of range.now)) scopes.old) }
+{
+    let string = string_ref(exact, around, name, scopes);
+    match range {
+        None => Ok(count(string)),
+        Some(range) => Ok(count_in(string, node_range(alloc, exact, around, range, scopes)?)),
+    }
+}
+
+/// What is made of an offset, with an index or without one.
+#[cycle(nodes)]
+fn node_offset<'a>(
+    alloc: Global,
+    exact: bool,
+    around: &Around<'_, 'a>,
+    name: &'a [u8],
+    index: &'a Option<Box<Cond>>,
+    scopes: &mut Scopes<'a>,
+) -> Result<Option<Node>, NoMemory>
+    requires room { IsRoomy exact around.now }
+    requires forms { forms.HasForms (tree.offset_of name.now (option_map tree.tree_of (tree.boxed index.now))) }
+    requires low { height.height (tree.offset_of name.now (option_map tree.tree_of (tree.boxed index.now))) + length scopes.old ≤ forms.height_limit }
+    ensures scopes { OnOk result (scopes.new ≡ scopes.old) }
+    ensures node { IfOk result (λ n. option_map tree_of n ≡ shape.shape_of exact the_readers (around_of around.now) (tree.offset_of name.now (option_map tree.tree_of (tree.boxed index.now))) scopes.old) }
+{
+    let string = string_ref(exact, around, name, scopes);
+    match index {
+        None => Ok(offset(string)),
+        Some(index) => {
+            let index = node(alloc, exact, around, index, scopes)?;
+            offset_at(alloc, string, index)
+        }
+    }
+}
+
+/// What is made of a length, with an index or without one.
+#[cycle(nodes)]
+fn node_length<'a>(
+    alloc: Global,
+    exact: bool,
+    around: &Around<'_, 'a>,
+    name: &'a [u8],
+    index: &'a Option<Box<Cond>>,
+    scopes: &mut Scopes<'a>,
+) -> Result<Option<Node>, NoMemory>
+    requires room { IsRoomy exact around.now }
+    requires forms { forms.HasForms (tree.length_of name.now (option_map tree.tree_of (tree.boxed index.now))) }
+    requires low { height.height (tree.length_of name.now (option_map tree.tree_of (tree.boxed index.now))) + length scopes.old ≤ forms.height_limit }
+    ensures scopes { OnOk result (scopes.new ≡ scopes.old) }
+    ensures node { IfOk result (λ n. option_map tree_of n ≡ shape.shape_of exact the_readers (around_of around.now) (tree.length_of name.now (option_map tree.tree_of (tree.boxed index.now))) scopes.old) }
+{
+    let string = string_ref(exact, around, name, scopes);
+    match index {
+        None => Ok(length(string)),
+        Some(index) => {
+            let index = node(alloc, exact, around, index, scopes)?;
+            length_at(alloc, string, index)
+        }
+    }
+}
+
+#[cycle(nodes)]
+fn links<'a>(
+    alloc: Global,
+    exact: bool,
+    around: &Around<'_, 'a>,
+    rest: &'a [Link],
+    scopes: &mut Scopes<'a>,
+) -> Result<Option<Vec<NodeLink>>, NoMemory>
+    requires room { IsRoomy exact around.now }
+    requires forms { forms.LinksHaveForms (tree.links_of (map tree.link_of rest.now)) }
+    requires low { height.links_height (tree.links_of (map tree.link_of rest.now)) + length scopes.old ≤ forms.height_limit }
+    ensures scopes { OnOk result (scopes.new ≡ scopes.old) }
+    ensures node { IfOk result (λ n. option_map (λ ls. links_of (map link_of ls.items)) n ≡ shape.links_shape exact the_readers (around_of around.now) (tree.links_of (map tree.link_of rest.now)) scopes.old) }
+{
+    let mut all = Vec::new(alloc);
+    for link in rest {
+        let Some(operand) = node(alloc, exact, around, &link.operand, scopes)? else {
+            return Ok(None);
+        };
+        let op = link.op;
+        all.push(NodeLink { op, operand })?;
+    }
+    Ok(Some(all))
+}
+
+/// What is made of the items of a list.
+#[cycle(nodes)]
+fn items<'a>(
+    alloc: Global,
+    exact: bool,
+    around: &Around<'_, 'a>,
+    all: &'a [Cond],
+    scopes: &mut Scopes<'a>,
+) -> Result<Option<Vec<Node>>, NoMemory>
+    requires room { IsRoomy exact around.now }
+    requires forms { forms.ItemsHaveForms (tree.items_of (map tree.tree_of all.now)) }
+    requires low { height.items_height (tree.items_of (map tree.tree_of all.now)) + length scopes.old ≤ forms.height_limit }
+    ensures scopes { OnOk result (scopes.new ≡ scopes.old) }
+    ensures node { IfOk result (λ n. option_map (λ ns. items_of (map tree_of ns.items)) n ≡ spec.items_node (shape.each_shape exact the_readers (around_of around.now) (tree.items_of (map tree.tree_of all.now)) scopes.old)) }
+{
+    let mut made = Vec::new(alloc);
+    for item in all {
+        let Some(one) = node(alloc, exact, around, item, scopes)? else {
+            return Ok(None);
+        };
+        made.push(one)?;
+    }
+    Ok(Some(made))
+}
+
+/// What is made of each argument of a call.
+#[cycle(nodes)]
+fn each<'a>(
+    alloc: Global,
+    exact: bool,
+    around: &Around<'_, 'a>,
+    all: &'a [Cond],
+    scopes: &mut Scopes<'a>,
+) -> Result<Vec<Option<Node>>, NoMemory>
+    requires room { IsRoomy exact around.now }
+    requires forms { forms.ItemsHaveForms (tree.items_of (map tree.tree_of all.now)) }
+    requires low { height.items_height (tree.items_of (map tree.tree_of all.now)) + length scopes.old ≤ forms.height_limit }
+    ensures scopes { OnOk result (scopes.new ≡ scopes.old) }
+    ensures node { IfOk result (λ n. written_of n.items ≡ shape.each_shape exact the_readers (around_of around.now) (tree.items_of (map tree.tree_of all.now)) scopes.old) }
+{
+    let mut made = Vec::new(alloc);
+    for item in all {
+        made.push(node(alloc, exact, around, item, scopes)?)?;
+    }
+    Ok(made)
+}
+
+/// What is made of a path: it begins with a word.
+#[cycle(nodes)]
+fn path<'a>(
+    alloc: Global,
+    exact: bool,
+    around: &Around<'_, 'a>,
+    steps: &'a [PathStep],
+    scopes: &mut Scopes<'a>,
+) -> Result<Option<Node>, NoMemory>
+    requires room { IsRoomy exact around.now }
+    requires forms { forms.StepsHaveForms (tree.steps_of (map tree.step_of steps.now)) }
+    requires low { height.steps_height (tree.steps_of (map tree.step_of steps.now)) + length scopes.old ≤ forms.height_limit }
+    ensures scopes { OnOk result (scopes.new ≡ scopes.old) }
+    ensures node { IfOk result (λ n. option_map tree_of n ≡ shape.path_shape exact the_readers (around_of around.now) (tree.steps_of (map tree.step_of steps.now)) scopes.old) }
+{
+    match steps {
+        [PathStep::Name(word), rest @ ..] => {
+            let meaning = word_meaning(around, word, scopes);
+            steps_behind(alloc, exact, around, rest, meaning, scopes)
+        }
+        _ => Ok(None),
+    }
+}
+
+/// The index or the arguments that are written last, with one more part behind.
+#[cycle(nodes)]
+fn step_written<'a>(
+    alloc: Global,
+    exact: bool,
+    around: &Around<'_, 'a>,
+    step: &'a PathStep,
+    written: Vec<Option<Node>>,
+    scopes: &mut Scopes<'a>,
+) -> Result<Vec<Option<Node>>, NoMemory>
+    requires room { IsRoomy exact around.now }
+    requires forms { OneHasForms (tree.step_of step.now) }
+    requires low { one_height (tree.step_of step.now) + length scopes.old ≤ forms.height_limit }
+    ensures scopes { OnOk result (scopes.new ≡ scopes.old) }
+    ensures written { IfOk result (λ w. written_of w.items ≡ one_written exact the_readers (around_of around.now) (tree.step_of step.now) (written_of written.items) scopes.old) }
+{
+    match step {
+        PathStep::Name(_) => Ok(written),
+        PathStep::Index(index) => one(alloc, node(alloc, exact, around, index, scopes)?),
+        PathStep::Call(arguments) => each(alloc, exact, around, arguments, scopes),
+    }
+}
+
+/// What is made of a path behind what means this.
+#[cycle(nodes)]
+fn steps_behind<'a>(
+    alloc: Global,
+    exact: bool,
+    around: &Around<'_, 'a>,
+    steps: &'a [PathStep],
+    start: Meaning<'a>,
+    scopes: &mut Scopes<'a>,
+) -> Result<Option<Node>, NoMemory>
+    requires room { IsRoomy exact around.now }
+    requires known { IsLow (length scopes.old) (length around.now.externals.now) (shown start) }
+    requires forms { forms.StepsHaveForms (tree.steps_of (map tree.step_of steps.now)) }
+    requires low { height.steps_height (tree.steps_of (map tree.step_of steps.now)) + length scopes.old ≤ forms.height_limit }
+    ensures scopes { OnOk result (scopes.new ≡ scopes.old) }
+    ensures node { IfOk result (λ n. option_map tree_of n ≡ shape.steps_shape exact the_readers (around_of around.now) (tree.steps_of (map tree.step_of steps.now)) (shown start.entry) [] scopes.old) }
+{
+    let mut meaning = start;
+    let mut written = Vec::new(alloc);
+    for step in steps {
+        written = step_written(alloc, exact, around, step, written, scopes)?;
+        meaning = then_step(meaning, step);
+    }
+    value(alloc, exact, around.externals, meaning, written)
+}
+
+#[cycle(nodes)]
+fn node_place<'a>(
+    alloc: Global,
+    exact: bool,
+    around: &Around<'_, 'a>,
+    place: &'a Place,
+    scopes: &mut Scopes<'a>,
+) -> Result<Option<NodePlace>, NoMemory>
+    requires room { IsRoomy exact around.now }
+    requires forms { forms.PlaceHasForms (tree.where_of place.now) }
+    requires low { height.where_height (tree.where_of place.now) + length scopes.old ≤ forms.height_limit }
+    ensures scopes { OnOk result (scopes.new ≡ scopes.old) }
+    ensures node { IfOk result (λ n. option_map where_of n ≡ shape.place_shape exact the_readers (around_of around.now) (tree.where_of place.now) scopes.old) }
+{
+    match place {
+        Place::Anywhere => Ok(Some(NodePlace::Anywhere)),
+        Place::At(at) => {
+            let at = node(alloc, exact, around, at, scopes)?;
+            place_at(alloc, at)
+        }
+        Place::Within(range) => Ok(place_within(node_range(alloc, exact, around, range, scopes)?)),
+    }
+}
+
+#[cycle(nodes)]
+fn node_asked<'a>(
+    alloc: Global,
+    exact: bool,
+    around: &Around<'_, 'a>,
+    quant: &'a Quant,
+    scopes: &mut Scopes<'a>,
+) -> Result<Option<NodeQuant>, NoMemory>
+    requires room { IsRoomy exact around.now }
+    requires forms { forms.AskedHasForms (tree.asked_of quant.now) }
+    requires low { height.asked_height (tree.asked_of quant.now) + length scopes.old ≤ forms.height_limit }
+    ensures scopes { OnOk result (scopes.new ≡ scopes.old) }
+    ensures node { IfOk result (λ n. option_map asked_of n ≡ shape.asked_shape exact the_readers (around_of around.now) (tree.asked_of quant.now) scopes.old) }
+{
+    match quant {
+        Quant::All => Ok(Some(NodeQuant::All)),
+        Quant::Any => Ok(Some(NodeQuant::Any)),
+        Quant::Nil => Ok(Some(NodeQuant::Nil)),
+        Quant::Number(count) => {
+            let count = node(alloc, exact, around, count, scopes)?;
+            asked_number(alloc, count)
+        }
+        Quant::Percent(count) => {
+            let count = node(alloc, exact, around, count, scopes)?;
+            asked_percent(alloc, count)
+        }
+    }
+}
+
+#[cycle(nodes)]
+fn node_over<'a>(
+    alloc: Global,
+    exact: bool,
+    around: &Around<'_, 'a>,
+    over: &'a Over,
+    scopes: &mut Scopes<'a>,
+) -> Result<Option<NodeOver>, NoMemory>
+    requires room { IsRoomy exact around.now }
+    requires forms { forms.DomainHasForms (tree.domain_of over.now) }
+    requires low { height.domain_height (tree.domain_of over.now) + length scopes.old ≤ forms.height_limit }
+    ensures scopes { OnOk result (scopes.new ≡ scopes.old) }
+    ensures node { IfOk result (λ n. option_map domain_of n ≡ shape.domain_shape exact the_readers (around_of around.now) (tree.domain_of over.now) scopes.old) }
+{
+    match over {
+        Over::Range(range) => Ok(over_range(node_range(alloc, exact, around, range, scopes)?)),
+        Over::List(all) => Ok(over_list(items(alloc, exact, around, all, scopes)?)),
+        Over::Path(steps) => Ok(over_entries(path_meaning(around, steps, scopes))),
+    }
+}
+
+/// What is made of a whole condition: the checked condition that it stands for, or where numbers are not wanted one of its shape.
+pub fn condition_node<'a>(
+    alloc: Global,
+    exact: bool,
+    around: &Around<'_, 'a>,
+    condition: &'a Cond,
+) -> Result<Option<Node>, NoMemory>
+    requires room { IsRoomy exact around.now }
+    requires forms { forms.HasForms (tree.tree_of condition.now) }
+    requires low { height.height (tree.tree_of condition.now) ≤ forms.height_limit }
+    ensures { IfOk result (λ n. option_map tree_of n ≡ shape.shape_of exact the_readers (around_of around.now) (tree.tree_of condition.now) []) }
+{
+    let mut scopes = Scopes::new(alloc);
+    node(alloc, exact, around, condition, &mut scopes)
+}

@@ -1,0 +1,7 @@
+pub mod AddLemmas
+pub mod RangeLemmas
+pub mod RowLemmas
+pub mod EntryLemmas
+pub mod JudgedLemmas
+pub mod CallerLemmas
+mod Hexadecimal

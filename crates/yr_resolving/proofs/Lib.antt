@@ -1,0 +1,10 @@
+pub mod WalkLemmas
+pub mod SpaceLemmas
+pub mod SpreadLemmas
+pub mod GoodLemmas
+pub mod UseLemmas
+pub mod StageLemmas
+pub mod AroundLemmas
+pub mod JudgeLemmas
+pub mod WalkedLemmas
+pub mod FinishLemmas

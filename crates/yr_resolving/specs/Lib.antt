@@ -1,0 +1,6 @@
+pub mod AtHand
+pub mod Late
+pub mod Stages
+pub mod Judged
+pub mod Spaces
+pub mod Walked

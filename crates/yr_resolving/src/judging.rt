@@ -1,0 +1,362 @@
+//! The checks on a rule, and the checked rule where none fails.
+
+ghost use Rattle.std.specs.Prelude.{◌≡◌, ◌<◌, ◌≤◌, ◌+◌, ◌-◌, ◌^◌, ◌&&◌, nat_le, [], IfOk, IfErr, OnOk, Some, None, length, map, min};
+ghost use Rattle.std.specs.Option.{option_map, option_and_then};
+ghost use Rattle.yr_nodes.specs.Fixed.{the_readers};
+ghost use Rattle.yr_nodes.specs.Shapes.{shape_of};
+ghost use Rattle.yr_rules.specs.NodeTree.{tree_of as node_tree};
+ghost use Rattle.yr_numbered.specs.Names.{first};
+ghost use Rattle.yr_rules.specs.Kinds.{kind_of};
+ghost use Rattle.yr_rules.specs.Weight.{total, weight_of, rule_weight as weight_of_rule, string_weight as weight_of_string};
+ghost use Rattle.yr_rules.specs.Rules.{external_of, rule_of as checked_rule_of};
+ghost use Rattle.yr_syntax.specs.Forms.{Each, HasForms, RuleHasForms};
+ghost use Rattle.yr_resolving.specs.AtHand.{IsAtHand, given_at, placed_at};
+ghost use Rattle.yr_types.specs.Checked as checked;
+ghost use Rattle.yr_findings.specs.Findings.{finding_of, IsSoundString};
+ghost use Rattle.yr_types.specs.Given.{around, finding, rule_uses, rule_node, string_names as names_of};
+ghost use Rattle.yr_resolving.specs.Judged.{IsBefore, IsMade, Explains, rule_fault, weight_fault, rest_fault};
+ghost use Rattle.yr_types.specs.Patterns as patterns;
+ghost use Rattle.yr_types.specs.Refusals.{at_rule, checks};
+ghost use Rattle.yr_types.specs.Sources.{AtRule, first_string_of, number_of, up_to};
+ghost use Rattle.yr_resolving.specs.Stages.{fault_at, late_fault};
+ghost use Rattle.yr_uses.specs.Around.{around_of};
+
+use crate::at_hand::AtHand;
+use crate::late::Examined;
+use crate::refusing::refuse_rule;
+use crate::stages::{CHECKS, Fault, first_early, first_late};
+use std::alloc::Global;
+use yr_base::NoMemory;
+use yr_findings::{
+    Named, StringFindings, checked_strings, copy_bytes, copy_meta, copy_tags,
+    first_expression_findings, first_unused, found, string_findings, string_names, wildcards,
+};
+use yr_kinds::{condition_kind, condition_weight, meta_weight, tags_weight};
+use yr_nodes::condition_node;
+use yr_numbered::{Name, Numbered};
+use yr_rules::{CheckedRule, CheckedString, External, Kind, Node};
+use yr_types::{Check, Code, ResolveFault};
+use yr_uses::{Around, Uses, condition_uses};
+
+/// How many rules and strings stand before a rule, and what they weigh with the externals, as far as 64 bits tell.
+#[derive(Clone, Copy, Debug, PartialEq, Eq)]
+pub struct Before {
+    pub rules: usize,
+    pub strings: usize,
+    pub weight: u64,
+}
+
+/// A rule that passes, and what is kept of it.
+#[derive(Drop)]
+pub struct Made<'a> {
+    pub rule: CheckedRule,
+    pub strings: Vec<CheckedString>,
+    /// The wildcards for rules in its condition.
+    pub fronts: Vec<Name<'a>>,
+    /// What all rules up to this one weigh.
+    pub weight: u64,
+}
+
+/// What the rule's names are looked up in.
+fn rule_around<'c, 'a>(
+    at: &AtHand<'c, 'a>,
+    strings: &'c Numbered<'a>,
+    first_string: u32,
+) -> Around<'c, 'a>
+    requires at { IsAtHand at.now }
+    requires strings { strings.now ≡ names_of (placed_at at.now).rule }
+    requires first { first_string ≡ first_string_of (placed_at at.now) }
+    ensures { around_of result ≡ around (given_at at.now) (placed_at at.now) }
+{
+    Around {
+        modules: &at.names.modules,
+        imports: &at.space.imports,
+        externals: at.externals,
+        external_names: at.external_names,
+        rules: &at.space.rules,
+        rule_numbers: &at.space.numbers,
+        strings,
+        first_string,
+    }
+}
+
+/// Whether strings and externals are few enough to be numbered: else there are too many strings or the externals are too heavy.
+fn is_exact(at: &AtHand<'_, '_>, before: &Before) -> bool
+    requires { before.now.strings ≤ 65535 }
+    ensures { result ≡ (nat_le (before.now.strings + length at.now.rule.now.strings.items) 65535 && nat_le (length at.now.externals.now) 1048576) }
+{
+    at.rule.strings.len() <= 65535 - before.strings && at.externals.len() <= 1_048_576
+}
+
+fn node_kind(externals: &[External], node: &Option<Node>) -> Option<Kind>
+    ensures { result ≡ option_and_then (λ n. kind_of (map external_of externals.now) n []) (option_map node_tree node.now) }
+{
+    match node {
+        Some(node) => condition_kind(externals, node),
+        None => None,
+    }
+}
+
+/// The refusal of the rule by a check that fails.
+fn refusal(alloc: Global, at: &AtHand<'_, '_>, before: &Before, fault: Fault<'_>) -> ResolveFault
+    requires { IsBefore (given_at at.now) (placed_at at.now) before.now }
+    ensures { Explains result (Some (fault_at (placed_at at.now) fault.entry)) }
+{
+    match refuse_rule(alloc, at, before.rules, fault.check, fault.finding) {
+        Ok(refusal) => ResolveFault::Refused(refusal),
+        Err(_) => ResolveFault::NoMemory,
+    }
+}
+
+/// The first of the later checks that fails, but for the weight.
+fn later_fault<'a>(
+    alloc: Global,
+    at: &AtHand<'_, 'a>,
+    before: &Before,
+    strings: &Numbered<'a>,
+    uses: &Uses<'a>,
+    findings: StringFindings<'a>,
+    kind: Option<Kind>,
+) -> Result<Option<Fault<'a>>, NoMemory>
+    requires at { IsAtHand at.now }
+    requires before { IsBefore (given_at at.now) (placed_at at.now) before.now }
+    requires forms { HasForms (placed_at at.now).rule.condition }
+    requires strings { strings.now ≡ names_of (placed_at at.now).rule }
+    requires uses { uses.now ≡ rule_uses (given_at at.now) (placed_at at.now) }
+    requires bad_hex { option_map finding_of findings.bad_hex ≡ first (patterns.bad_hex the_readers) (placed_at at.now).rule.strings }
+    requires bad_regex { option_map finding_of findings.bad_regex ≡ first (patterns.bad_regex the_readers) (placed_at at.now).rule.strings }
+    requires large { option_map finding_of findings.large ≡ first (patterns.large_string the_readers) (placed_at at.now).rule.strings }
+    requires kind { kind ≡ option_and_then (λ n. kind_of (given_at at.now).externals n []) (rule_node (given_at at.now) (placed_at at.now)) }
+    ensures { IfOk result (λ o. option_map (fault_at (placed_at at.now)) o ≡ first (late_fault (given_at at.now) (placed_at at.now)) checks) }
+{
+    let expressions = first_expression_findings(alloc, uses.items())?;
+    let unused = first_unused(alloc, uses.items(), strings)?;
+    let examined = Examined {
+        at,
+        strings,
+        uses,
+        bad_hex: findings.bad_hex,
+        bad_regex: findings.bad_regex,
+        large: findings.large,
+        bad_use: expressions.bad,
+        large_use: expressions.large,
+        unused,
+        kind,
+        rules_before: before.rules,
+        strings_before: before.strings,
+    };
+    Ok(first_late(&examined, &CHECKS))
+}
+
+/// What a rule weighs without its strings.
+fn rule_weight(at: &AtHand<'_, '_>, node: &Node) -> u64
+    ensures { result ≡ min (weight_of_rule (checked.with_node (placed_at at.now) (node_tree node.now))) (2 ^ 64 - 1) }
+{
+    (at.rule.name.len() as u64)
+        .saturating_add(tags_weight(&at.rule.tags))
+        .saturating_add(meta_weight(&at.rule.meta))
+        .saturating_add(condition_weight(node))
+        .saturating_add(64)
+}
+
+/// The rule with this checked condition.
+fn checked_rule(
+    alloc: Global,
+    at: &AtHand<'_, '_>,
+    before: &Before,
+    condition: Node,
+) -> Result<CheckedRule, NoMemory>
+    requires before { IsBefore (given_at at.now) (placed_at at.now) before.now }
+    requires few { first_string_of (placed_at at.now) + length (placed_at at.now).rule.strings ≤ 65535 }
+    ensures { IfOk result (λ r. checked_rule_of r ≡ checked.with_node (placed_at at.now) (node_tree condition)) }
+{
+    Ok(CheckedRule {
+        namespace: copy_bytes(alloc, at.namespace)?,
+        name: copy_bytes(alloc, &at.rule.name)?,
+        global: at.rule.global,
+        hidden: at.rule.hidden,
+        tags: copy_tags(alloc, &at.rule.tags)?,
+        meta: copy_meta(alloc, &at.rule.meta)?,
+        first_string: before.strings as u32,
+        string_count: at.rule.strings.len() as u32,
+        condition,
+    })
+}
+
+/// The heaviest that rules may be.
+pub const WEIGHT_LIMIT: u64 = 33_554_432;
+
+/// What is kept of a rule at which no check but the weight can fail.
+fn make<'a>(
+    alloc: Global,
+    at: &AtHand<'_, 'a>,
+    before: &Before,
+    uses: &Uses<'a>,
+    weight: u64,
+    condition: Node,
+) -> Result<Made<'a>, NoMemory>
+    requires before { IsBefore (given_at at.now) (placed_at at.now) before.now }
+    requires sound { Each IsSoundString (placed_at at.now).rule.strings }
+    requires few_rules { number_of (placed_at at.now) + 1 ≤ 65535 }
+    requires few_strings { first_string_of (placed_at at.now) + length (placed_at at.now).rule.strings ≤ 65535 }
+    requires uses { uses.now ≡ rule_uses (given_at at.now) (placed_at at.now) }
+    requires condition { rule_node (given_at at.now) (placed_at at.now) ≡ Some (node_tree condition) }
+    requires weight { weight ≡ min (weight_of (checked.checked_rules (given_at at.now) (up_to (AtRule (placed_at at.now))))) (2 ^ 64 - 1) }
+    ensures { IfOk result (IsMade (given_at at.now) (placed_at at.now)) }
+{
+    let strings = checked_strings(alloc, &at.rule.strings, before.rules as u32)?;
+    let fronts = wildcards(alloc, uses.items())?;
+    let rule = checked_rule(alloc, at, before, condition)?;
+    Ok(Made {
+        rule,
+        strings,
+        fronts,
+        weight,
+    })
+}
+
+/// The refusal of the rule because the rules up to it are too heavy.
+fn too_heavy(alloc: Global, at: &AtHand<'_, '_>, before: &Before) -> ResolveFault
+    requires { IsBefore (given_at at.now) (placed_at at.now) before.now }
+    ensures { Explains result (Some (at_rule (placed_at at.now) Check.Weight (finding Code.TooHeavy []))) }
+{
+    let finding = found(Code::TooHeavy, Named::Nothing);
+    let check = Check::Weight;
+    refusal(alloc, at, before, Fault { check, finding })
+}
+
+/// What the rules up to this one weigh.
+fn weight_so_far(at: &AtHand<'_, '_>, before: &Before, strings_weight: u64, condition: &Node) -> u64
+    requires before { IsBefore (given_at at.now) (placed_at at.now) before.now }
+    requires strings { strings_weight ≡ min (total weight_of_string (checked.checked_strings (given_at at.now) (placed_at at.now))) (2 ^ 64 - 1) }
+    requires condition { rule_node (given_at at.now) (placed_at at.now) ≡ Some (node_tree condition.now) }
+    ensures { result ≡ min (weight_of (checked.checked_rules (given_at at.now) (up_to (AtRule (placed_at at.now))))) (2 ^ 64 - 1) }
+{
+    rule_weight(at, condition)
+        .saturating_add(strings_weight)
+        .saturating_add(before.weight)
+}
+
+/// The check of the weight for a rule whose names have numbers.
+fn weigh_exact<'a>(
+    alloc: Global,
+    at: &AtHand<'_, 'a>,
+    before: &Before,
+    uses: &Uses<'a>,
+    strings_weight: u64,
+    condition: Node,
+) -> Result<Made<'a>, ResolveFault>
+    requires before { IsBefore (given_at at.now) (placed_at at.now) before.now }
+    requires sound { Each IsSoundString (placed_at at.now).rule.strings }
+    requires uses { uses.now ≡ rule_uses (given_at at.now) (placed_at at.now) }
+    requires strings_weight { strings_weight ≡ min (total weight_of_string (checked.checked_strings (given_at at.now) (placed_at at.now))) (2 ^ 64 - 1) }
+    requires condition { rule_node (given_at at.now) (placed_at at.now) ≡ Some (node_tree condition) }
+    requires few_rules { number_of (placed_at at.now) + 1 ≤ 65535 }
+    requires few_strings { first_string_of (placed_at at.now) + length (placed_at at.now).rule.strings ≤ 65535 }
+    ensures made { IfOk result (IsMade (given_at at.now) (placed_at at.now)) }
+    ensures passed { OnOk result (weight_fault (given_at at.now) (placed_at at.now) ≡ None) }
+    ensures refused { IfErr result (λ e. Explains e (weight_fault (given_at at.now) (placed_at at.now))) }
+{
+    let weight = weight_so_far(at, before, strings_weight, &condition);
+    if weight > WEIGHT_LIMIT {
+        return Err(too_heavy(alloc, at, before));
+    }
+    let made = make(alloc, at, before, uses, weight, condition)?;
+    Ok(made)
+}
+
+/// The check of the weight, and what is kept of the rule where it passes.
+fn weigh<'a>(
+    alloc: Global,
+    at: &AtHand<'_, 'a>,
+    before: &Before,
+    uses: &Uses<'a>,
+    strings_weight: u64,
+    exact: bool,
+    node: Option<Node>,
+) -> Result<Made<'a>, ResolveFault>
+    requires before { IsBefore (given_at at.now) (placed_at at.now) before.now }
+    requires sound { Each IsSoundString (placed_at at.now).rule.strings }
+    requires exact { exact ≡ (nat_le (before.now.strings + length at.now.rule.now.strings.items) 65535 && nat_le (length at.now.externals.now) 1048576) }
+    requires uses { uses.now ≡ rule_uses (given_at at.now) (placed_at at.now) }
+    requires strings_weight { strings_weight ≡ min (total weight_of_string (checked.checked_strings (given_at at.now) (placed_at at.now))) (2 ^ 64 - 1) }
+    requires node { option_map node_tree node ≡ shape_of exact the_readers (around (given_at at.now) (placed_at at.now)) (placed_at at.now).rule.condition [] }
+    requires passed { first (late_fault (given_at at.now) (placed_at at.now)) checks ≡ None }
+    ensures made { IfOk result (IsMade (given_at at.now) (placed_at at.now)) }
+    ensures passed { OnOk result (weight_fault (given_at at.now) (placed_at at.now) ≡ None) }
+    ensures refused { IfErr result (λ e. Explains e (weight_fault (given_at at.now) (placed_at at.now))) }
+{
+    if !exact {
+        drop(node);
+        return Err(too_heavy(alloc, at, before));
+    }
+    let Some(condition) = node else {
+        unreachable!();
+    };
+    weigh_exact(alloc, at, before, uses, strings_weight, condition)
+}
+
+/// The checks that look at patterns and the condition, of a rule whose strings have these names.
+fn judge_named<'c, 's, 'a>(
+    alloc: Global,
+    at: &AtHand<'c, 'a>,
+    before: &Before,
+    strings: &'s Numbered<'a>,
+) -> Result<Made<'a>, ResolveFault>
+    requires at { IsAtHand at.now }
+    requires before { IsBefore (given_at at.now) (placed_at at.now) before.now }
+    requires forms { RuleHasForms (placed_at at.now).rule }
+    requires sound { Each IsSoundString (placed_at at.now).rule.strings }
+    requires strings { strings.now ≡ names_of (placed_at at.now).rule }
+    ensures made { IfOk result (IsMade (given_at at.now) (placed_at at.now)) }
+    ensures passed { OnOk result (rest_fault (given_at at.now) (placed_at at.now) ≡ None) }
+    ensures refused { IfErr result (λ e. Explains e (rest_fault (given_at at.now) (placed_at at.now))) }
+{
+    let around = rule_around(at, strings, before.strings as u32);
+    let uses = condition_uses(alloc, &around, &at.rule.condition)?;
+    let exact = is_exact(at, before);
+    let node = condition_node(alloc, exact, &around, &at.rule.condition)?;
+    let findings = string_findings(alloc, &at.rule.strings, before.rules as u32)?;
+    let kind = node_kind(at.externals, &node);
+    match later_fault(alloc, at, before, strings, &uses, findings, kind)? {
+        Some(fault) => Err(refusal(alloc, at, before, fault)),
+        None => weigh(alloc, at, before, &uses, findings.weight, exact, node),
+    }
+}
+
+/// The checks that look at patterns and the condition.
+fn judge_condition<'a>(
+    alloc: Global,
+    at: &AtHand<'_, 'a>,
+    before: &Before,
+) -> Result<Made<'a>, ResolveFault>
+    requires at { IsAtHand at.now }
+    requires before { IsBefore (given_at at.now) (placed_at at.now) before.now }
+    requires forms { RuleHasForms (placed_at at.now).rule }
+    requires sound { Each IsSoundString (placed_at at.now).rule.strings }
+    ensures made { IfOk result (IsMade (given_at at.now) (placed_at at.now)) }
+    ensures passed { OnOk result (rest_fault (given_at at.now) (placed_at at.now) ≡ None) }
+    ensures refused { IfErr result (λ e. Explains e (rest_fault (given_at at.now) (placed_at at.now))) }
+{
+    let strings = string_names(alloc, &at.rule.strings)?;
+    judge_named(alloc, at, before, &strings)
+}
+
+/// All checks on a rule, and what is kept of it where none fails.
+pub fn judge<'a>(
+    alloc: Global,
+    at: &AtHand<'_, 'a>,
+    before: &Before,
+) -> Result<Made<'a>, ResolveFault>
+    requires at { IsAtHand at.now }
+    requires before { IsBefore (given_at at.now) (placed_at at.now) before.now }
+    requires forms { RuleHasForms (placed_at at.now).rule }
+    ensures made { IfOk result (IsMade (given_at at.now) (placed_at at.now)) }
+    ensures passed { OnOk result (first (rule_fault (given_at at.now) (placed_at at.now)) checks ≡ None) }
+    ensures refused { IfErr result (λ e. Explains e (first (rule_fault (given_at at.now) (placed_at at.now)) checks)) }
+{
+    match first_early(alloc, at, &CHECKS)? {
+        Some(fault) => Err(refusal(alloc, at, before, fault)),
+        None => judge_condition(alloc, at, before),
+    }
+}

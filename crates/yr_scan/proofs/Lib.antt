@@ -1,0 +1,3 @@
+pub mod ExternalLemmas
+pub mod FitLemmas
+pub mod ReportLemmas

@@ -1,0 +1,17 @@
+//! A scan by an image, from the image's name to the report.
+#![tactic(auto)]
+
+mod externals;
+mod faults;
+mod imaging;
+mod misfits;
+mod owning;
+mod reporting;
+mod valuing;
+
+pub use faults::refuse_image;
+pub use imaging::{scan_by_image, scan_compiled, scan_target};
+pub use misfits::{Misfit, first_misfit, refuse_external};
+pub use owning::scan_own;
+pub use reporting::report;
+pub use valuing::values;

@@ -1,0 +1,5 @@
+mod RunLemmas
+mod MergeLemmas
+mod StartLemmas
+mod OpenLemmas
+mod SpanLemmas

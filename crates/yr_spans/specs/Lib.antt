@@ -1,0 +1,2 @@
+pub mod StartWalks
+pub mod Spans
