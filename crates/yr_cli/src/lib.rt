@@ -1,21 +1,9 @@
-//! The command line of the scanner: what its words mean, what a scan writes, and how it ends.
+//! The scanner's top call.
 #![tactic(auto)]
 
-mod answer;
-mod laws;
-mod matching;
-mod reserved;
-mod rule;
-mod saying;
-mod scanning;
-mod status;
-mod token;
+mod program;
 mod top;
-mod words;
 
-pub use laws::{one_outcome, one_reading};
-pub use status::Status;
+pub use program::Program;
 pub use top::yara_main;
-
-#[cfg(test)]
-mod tests;
+pub use yr_outcome::Status;

@@ -1,9 +1,0 @@
-pub mod Words
-pub mod Tokens
-pub mod Front
-pub mod Back
-pub mod Report
-pub mod Outcome
-pub mod Answers
-pub mod Codes
-pub mod Readers
