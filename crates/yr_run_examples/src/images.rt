@@ -126,7 +126,9 @@ fn images_from_anybody(rt: HostRuntime) -> Result<(), Fail> {
         (108, 1, Status::Image, "", "s.img: Node 0\n"),
     ] {
         let mut image = Vec::from_slice(alloc, &TRUE_IMAGE)?;
-        image[place] = byte;
+        if let Some(changed) = image.get_mut(place) {
+            *changed = byte;
+        }
         let mut store = MemoryStore::new(alloc)?;
         store.add(alloc, "s.img", &image)?;
         store.add(alloc, "t.bin", b"xyz")?;
