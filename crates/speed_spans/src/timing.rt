@@ -137,6 +137,10 @@ pub fn time(
     }
     let bytes = std::num::nearest_usize_to_f64(text.len());
     let megabytes = bytes / least / 1e6;
-    println!(rt; "{name}, {what}: {} bytes, {least:.3} s, {megabytes:.3} MB/s ({} places)", text.len(), found.places)?;
+    println!(rt;
+        "{name}, {what}: {} bytes, {least:.3} s, {megabytes:.3} MB/s ({} places)",
+        text.len(),
+        found.places
+    )?;
     Ok(())
 }

@@ -64,15 +64,15 @@ source-in : (w : Word) (halves : Option Halves) → On (λ s. IsShortWord s.spac
 source-in w None = on-some (λ (s : Source). IsShortWord s.space) (whole_source w) default-fits
 source-in w (Some h) = on-test (λ (s : Source). IsShortWord s.space) (is_name h.front) _ (Some (whole_source w))
     (λ named. on-test (λ (s : Source). IsShortWord s.space) _ _ None
-      (λ some. on-some (λ (s : Source). IsShortWord s.space) (record { space = h.front; file = h.back }) (name-fits h.front named))
-      (λ none. on-none (λ (s : Source). IsShortWord s.space)))
+    (λ some. on-some (λ (s : Source). IsShortWord s.space) (record { space = h.front; file = h.back }) (name-fits h.front named))
+    (λ none. on-none (λ (s : Source). IsShortWord s.space)))
     (λ other. on-some (λ (s : Source). IsShortWord s.space) (whole_source w) default-fits)
 
 given-fits : (w : Word) → On (λ g. IsShortWord g.name) (given_of w)
 given-fits w = on-then (λ (g : Given). IsShortWord g.name) given_by (cut_at 61 w)
     (λ h e. on-test (λ (g : Given). IsShortWord g.name) (is_name h.front) _ None
-      (λ named. on-some (λ (g : Given). IsShortWord g.name) _ (name-fits h.front named))
-      (λ other. on-none (λ (g : Given). IsShortWord g.name)))
+    (λ named. on-some (λ (g : Given). IsShortWord g.name) _ (name-fits h.front named))
+    (λ other. on-none (λ (g : Given). IsShortWord g.name)))
 
 -- as many as there are words, each with the property
 each-fits : {A : Type 0} (P : A → Type 0) (read : Word → Option A) → ((w : Word) → On P (read w)) → (ws : List Word)
@@ -80,13 +80,13 @@ each-fits : {A : Type 0} (P : A → Type 0) (read : Word → Option A) → ((w :
 each-fits {A} P read h [] = on-some (λ (xs : List A). (length xs ≡ 0) × All P xs) [] (refl, All-nil P)
 each-fits {A} P read h (w ∷ ws) = on-then (λ (xs : List A). (length xs ≡ suc (length ws)) × All P xs) _ (read w)
     (λ x e. on-map (λ (xs : List A). (length xs ≡ suc (length ws)) × All P xs) (λ xs. x ∷ xs) (each_of read ws)
-      (λ xs k. let rest = each-fits P read h ws xs k in (ap suc rest.0, All-cons P x xs (h w x e) rest.1)))
+    (λ xs k. let rest = each-fits P read h ws xs k in (ap suc rest.0, All-cons P x xs (h w x e) rest.1)))
 
 sources-fit : (ws : List Word) → On FitSources (sources_of ws)
 sources-fit ws = on-test FitSources (leb (length ws) 16) (each_of source_of ws) None
     (λ few sources e.
-      let fit = each-fits (λ (s : Source). IsShortWord s.space) source_of (λ w. source-in w (cut_at 58 w)) ws sources e in
-      (subst (λ n. n ≤ 16) (sym fit.0) (leb-true (length ws) 16 few), fit.1))
+    let fit = each-fits (λ (s : Source). IsShortWord s.space) source_of (λ w. source-in w (cut_at 58 w)) ws sources e in
+    (subst (λ n. n ≤ 16) (sym fit.0) (leb-true (length ws) 16 few), fit.1))
     (λ many. on-none FitSources)
 
 givens-fit : (ws : List Word) → On FitNames (each_of given_of ws)
@@ -97,7 +97,7 @@ split-fits : (command : List Source → Word → List Given → Command)
     → (s : Split) → On Fits (with_sources command s)
 split-fits command fits s = on-then Fits _ (sources_of s.sources)
     (λ sources e. on-map Fits (command sources s.file) (each_of given_of s.givens)
-      (λ givens k. fits sources s.file givens (sources-fit s.sources sources e) (givens-fit s.givens givens k)))
+    (λ givens k. fits sources s.file givens (sources-fit s.sources sources e) (givens-fit s.givens givens k)))
 
 scan-fits : (flags : Flags) (places : List Word) → On Fits (scan_of flags places)
 scan-fits flags places = on-then Fits (with_sources (Scan flags)) (split_of places)
@@ -116,7 +116,7 @@ check-fits : (places : List Word) → On Fits (check_of places)
 check-fits [] = on-none Fits
 check-fits (w ∷ ws) = on-then Fits _ (sources_of (w ∷ before_givens ws))
     (λ sources e. on-map Fits (Check sources) (each_of given_of (last_givens ws))
-      (λ givens k. (sources-fit (w ∷ before_givens ws) sources e, givens-fit (last_givens ws) givens k)))
+    (λ givens k. (sources-fit (w ∷ before_givens ws) sources e, givens-fit (last_givens ws) givens k)))
 
 number-fits : (most : ℕ) (w : Word) → On (λ n. n ≤ most) (number_up_to most w)
 number-fits most w = on-test (λ n. n ≤ most) (is_number w && leb (digits_value 10 w) most) (Some (digits_value 10 w)) None
@@ -138,7 +138,7 @@ plain-fits name places = on-test Fits (bytes_eq name (codes "compile")) (compile
 scan_by-fits : (flags places : List Word) → On Fits (scan_by flags places)
 scan_by-fits flags places = on-test Fits (list_all (is_flag_of scan_letters) flags) _ None
     (λ good. on-test Fits (has_letter 67 flags) (scan_image_of (scan_flags flags) places) (scan_of (scan_flags flags) places)
-      (λ image. image-fits (scan_flags flags) places) (λ rules. scan-fits (scan_flags flags) places))
+    (λ image. image-fits (scan_flags flags) places) (λ rules. scan-fits (scan_flags flags) places))
     (λ bad. on-none Fits)
 
 pub command-fits : (words : List Word) → On Fits (command_of words)
@@ -146,7 +146,7 @@ command-fits [] = on-none Fits
 command-fits (name ∷ words) = on-test Fits (bytes_eq name (codes "scan")) (scan_by (flags_of words) (places_of words)) _
     (λ scan. scan_by-fits (flags_of words) (places_of words))
     (λ other. on-test Fits (eqb (length (flags_of words)) 0) (plain_command name (places_of words)) None
-      (λ plain. plain-fits name (places_of words)) (λ flags. on-none Fits))
+    (λ plain. plain-fits name (places_of words)) (λ flags. on-none Fits))
 
 -- names of which none stands twice are different
 different-step : (n : Word) (b : Bool) (r : Option Word) (c k : ℕ) → cond b (Some n) r ≡ None → (r ≡ None → c ≡ k) → cond b c (c + 1) ≡ suc k

@@ -60,10 +60,10 @@ pieces number (suc n) =
     let turn : (n + 1) % 4 ≡ (n % 4 + 1) % 4 = omega arith in
     let small : n % 4 < 4 = omega arith in
     subst (λ k. length (flat_map (piece number) (range_with_len 0 k)) + 3 ≡ 12 * k + offsets k) (sym more) (
-      ap (λ l. length l + 3) (flat_map_next (piece number) n)
-      ∙ ap (λ k. k + 3) (length-append (flat_map (piece number) (range_with_len 0 n)) (piece number n)
-      ∙ ap (λ k. length (flat_map (piece number) (range_with_len 0 n)) + k) (piece-length number n))
-      ∙ step (n % 4) (length (flat_map (piece number) (range_with_len 0 n))) n small (pieces number n) ((n + 1) % 4) turn)
+    ap (λ l. length l + 3) (flat_map_next (piece number) n)
+    ∙ ap (λ k. k + 3) (length-append (flat_map (piece number) (range_with_len 0 n)) (piece number n)
+    ∙ ap (λ k. length (flat_map (piece number) (range_with_len 0 n)) + k) (piece-length number n))
+    ∙ step (n % 4) (length (flat_map (piece number) (range_with_len 0 n))) n small (pieces number n) ((n + 1) % 4) turn)
 
 offset-small : (b c d : Bool) → cond b 3 (cond c 0 (cond d 5 2)) ≤ 5
 offset-small true c d = omega arith

@@ -9,13 +9,11 @@ ghost use Rattle.yr_compiling.specs.Built.{HaveIds};
 ghost use Rattle.yr_outcome.specs.Answers.{counted, work_text};
 ghost use Rattle.yr_outcome.specs.Fits.{seen};
 ghost use Rattle.yr_outcome.specs.Front.{Reading, IsReading};
-
 ghost use Rattle.yr_outcome.specs.Outcome as outcome;
 ghost use Rattle.yr_outcome.specs.Steps.{FitsAnswer, HasCause};
 ghost use Rattle.yr_rules.specs.Rules.{rules_of};
 ghost use Rattle.yr_scanning.specs.Scanned.{module_values};
 ghost use Rattle.yr_words.specs.Commands.{Work};
-
 ghost use Rattle.yr_commands.specs.Program.{all_setting, refusal_or_none};
 
 use crate::compiling::image_of;

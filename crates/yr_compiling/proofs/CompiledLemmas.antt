@@ -135,10 +135,11 @@ module _ (known : Known) (tables : Tables) (rules : PlainRules) (good : IsWellfo
         let run = s.run in
         let built_here : IsBuilt context.image rules = subst (λ (i : Image). IsBuilt i rules) (sym (s.image ∙ read_back)) built in
         let file_bytes : AreBytes context.file = subst AreBytes (sym s.file_is) target_fits.0 in
-        let fit = fits_kinds context s.externals s.fields s.calls in
-        (same_lists context rules good ids built_here run.programs fit file_bytes s.hits run.hits_are run.lists_are ∙ ap (λ (f : List ℕ). match_lists_of f rules.strings) s.file_is,
-        same_found context rules good ids built_here run.programs fit file_bytes s.hits run.hits_are run.lists_are s.truths run.truths_are modules s.fields s.calls
-        ∙ ap₂ (λ (v : List Value) (f : List ℕ). truths_of (plain.environment_of modules rules v f) rules.rules) s.externals s.file_is)
+        let fit = fits_kinds context s.externals s.fields s.calls in (
+          same_lists context rules good ids built_here run.programs fit file_bytes s.hits run.hits_are run.lists_are ∙ ap (λ (f : List ℕ). match_lists_of f rules.strings) s.file_is,
+          same_found context rules good ids built_here run.programs fit file_bytes s.hits run.hits_are run.lists_are s.truths run.truths_are modules s.fields s.calls
+              ∙ ap₂ (λ (v : List Value) (f : List ℕ). truths_of (plain.environment_of modules rules v f) rules.rules) s.externals s.file_is,
+        )
 
     report_read : (count : ℕ) → IsImageReport modules bytes file values options target text count → text ≡ scan_report modules rules values file options target
     report_read count r =

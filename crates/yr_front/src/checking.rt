@@ -93,11 +93,7 @@ fn refuse_without_rule<'a>(alloc: Global, file: &str, refusal: &Refusal) -> Answ
             refusal.line,
             &[b"UnknownModule ", refusal.named.as_slice()],
         ),
-        code => refuse(
-            alloc,
-            Status::Rules,
-            &[code_name(code).as_bytes(), b"\n"],
-        ),
+        code => refuse(alloc, Status::Rules, &[code_name(code).as_bytes(), b"\n"]),
     }
 }
 

@@ -60,10 +60,7 @@ fn parse_next<'a>(
 }
 
 /// The declarations of all rule files, or the first refusal.
-pub fn parse_all<'a>(
-    alloc: Global,
-    units: &[SourceUnit<'_>],
-) -> Result<Vec<Unit>, Answer<'a>>
+pub fn parse_all<'a>(alloc: Global, units: &[SourceUnit<'_>]) -> Result<Vec<Unit>, Answer<'a>>
     ensures parsed { (reading : Reading) → IsReading reading → (modules : List NamedModule) → MatchResult result
         (λ trees. unit_trees reading modules (map unit_shown units.now) ≡ Ok (map unit_of trees.items))
         (RefusesAs (unit_trees reading modules (map unit_shown units.now))) }

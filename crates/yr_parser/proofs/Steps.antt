@@ -22,7 +22,6 @@ unfolding negates_at
 negates_shorter [] o h = cc
 negates_shorter (t ∷ k) o h = omega arith
 
-
 pub not_at : (p : Entry → Parser Condition) (k : Terminals) → read_not p k ≡ prefix_by (negates_at k) (read_not p (tail k)) (read_test p k)
 unfolding negates_at read_not read_test string_at test_other test_count count_at read_unary sees after
 not_at p [] = refl

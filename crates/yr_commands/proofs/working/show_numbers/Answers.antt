@@ -31,7 +31,7 @@ returns-clause-fits g c = λ files told is trace.
     let finds = subst (λ bytes. FindsSame module_values bytes rules) (sym c.deref.ensures.value) c.in-Ok.ensures.finds in
     subst (λ text. FitsAnswer all_setting (λ found. shown files text Free) c.answer_of.result (seen told trace (g.O.Sink.written c.args.out.now)) (seen told trace (g.O.Sink.written c.put_lines-put.new.out)))
     (numbers-same bytes c.args.file.now rules compiled finds c.in-Ok-scan_own.ensures.target c.in-Ok-scan_own.ensures.kinds c.in-Ok-scan_own.scan.matches.lists _ _ c.in-Ok-scan_own.ensures.scan
-      (length c.rules.result.now) (length c.args.file.now) c.count_yes-satisfied.result c.count_matches-matches.result
-      (ap length c.rules.ensures.rules ∙ sym (length-map c.args.rules.now.rules rule_of)) (λ i. length c.args.file.now)
-      (c.count_yes-satisfied.ensures ∙ ap (λ truths. count_by (λ truth. truth) (truths_shown truths)) c.deref-2.ensures.value) c.count_matches-matches.ensures)
+    (length c.rules.result.now) (length c.args.file.now) c.count_yes-satisfied.result c.count_matches-matches.result
+    (ap length c.rules.ensures.rules ∙ sym (length-map c.args.rules.now.rules rule_of)) (λ i. length c.args.file.now)
+    (c.count_yes-satisfied.ensures ∙ ap (λ truths. count_by (λ truth. truth) (truths_shown truths)) c.deref-2.ensures.value) c.count_matches-matches.ensures)
     (c.answer_of.ensures.fits files told is trace _ _ _ _ _ c.put_lines-put.ensures.puts)

@@ -43,5 +43,5 @@ returns-clause-fits g c = λ reading reads files told is trace.
     let v = seen told trace (g.O.Sink.written c.args.out.now) in
     subst (λ a. FitsAnswer all_setting (λ found. run all_setting reading found files (Work c.args.number c.args.size)) a v v) (sym c.refusal_in.ensures)
     (work-refused reading files c.args.number c.args.size c.in-Err.answer v is
-      (subst (λ (f : Files). RefusedBy (front.rules_of reading all_modules f (work_source ∷ []) []) c.in-Err.answer) same
-      (c.in-Err.ensures.refused reading reads all_modules refl (file_in store.files) refl)) _ _ 0 0 (c.in-Err.ensures.cause None 0 0))
+    (subst (λ (f : Files). RefusedBy (front.rules_of reading all_modules f (work_source ∷ []) []) c.in-Err.answer) same
+    (c.in-Err.ensures.refused reading reads all_modules refl (file_in store.files) refl)) _ _ 0 0 (c.in-Err.ensures.cause None 0 0))

@@ -16,7 +16,7 @@ returns-in_err-units-clause-rules c = λ reading reads modules is.
     let units = map unit_shown c.args.gathered.now in
     let givens = map given_shown c.args.givens.now in
     rw (p.1, p.2) (refuses-all (unit_trees reading modules units) (with_trees reading modules givens units (unit_trees reading modules units)) c.in_err-units.field-0.0
-      (λ e h. ap (with_trees reading modules givens units) h) (c.in_err-units.ensures.parsed reading reads modules))
+    (λ e h. ap (with_trees reading modules givens units) h) (c.in_err-units.ensures.parsed reading reads modules))
 
 pub check_units-requires-clause-units : goal.check_units-requires-clause-units
 check_units-requires-clause-units c =

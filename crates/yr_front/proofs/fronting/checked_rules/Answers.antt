@@ -18,7 +18,7 @@ pub returns-in-Ok-clause-refused : goal.returns-in-Ok-clause-refused
 returns-in-Ok-clause-refused g c = λ reading reads modules is files told.
     let sources = map source_shown c.args.sources.now in
     let gathered = subst (λ (l : List SourceUnit). AreGathered reading modules files sources (map unit_shown l) (g.F.Store.trace c.args.store.now) (g.F.Store.trace c.gather_all.new.store))
-        (sym c.deref.ensures.value) (c.in-Ok.ensures.walk reading reads modules files told) in
+    (sym c.deref.ensures.value) (c.in-Ok.ensures.walk reading reads modules files told) in
     refused_gathered reading modules files sources (map given_shown c.args.givens.now) _ _ (map unit_shown c.deref.result.now) gathered c.check_gathered.result
     (c.check_gathered.ensures.rules reading reads modules is)
 
@@ -26,7 +26,7 @@ pub returns-in-Ok-clause-fits : goal.returns-in-Ok-clause-fits
 returns-in-Ok-clause-fits g c = λ setting is reading reads files told out.
     let sources = map source_shown c.args.sources.now in
     let gathered = subst (λ (l : List SourceUnit). AreGathered reading setting.modules files sources (map unit_shown l) (g.F.Store.trace c.args.store.now) (g.F.Store.trace c.gather_all.new.store))
-        (sym c.deref.ensures.value) (c.in-Ok.ensures.walk reading reads setting.modules files told) in
+    (sym c.deref.ensures.value) (c.in-Ok.ensures.walk reading reads setting.modules files told) in
     fits_gathered setting reading files sources (map given_shown c.args.givens.now)
     (seen (g.F.Store.files c.args.store.now) (g.F.Store.trace c.args.store.now) out) (seen (g.F.Store.files c.gather_all.new.store) (g.F.Store.trace c.gather_all.new.store) out)
     told c.in-Ok.ensures.files refl (map unit_shown c.deref.result.now) gathered c.check_gathered.result (c.check_gathered.ensures.rules reading reads setting.modules is)

@@ -14,7 +14,7 @@ returns-in_err-gather_next-clause-walk g c = λ reading reads modules files told
     let inv = c.loop-source.invariant in
     let all = map source_shown c.args.sources.now in
     let so = subst (λ (rest : List Source). SoFar reading modules files all rest (map unit_shown c.loop-source.units.items) (g.F.Store.trace c.args.store.now) (g.F.Store.trace c.loop-source.store))
-        (rest-at source_shown c.args.sources.now c.loop-source.source-index _ c.loop-source-test.true) (inv.walk reading reads modules files told) in
+    (rest-at source_shown c.args.sources.now c.loop-source.source-index _ c.loop-source-test.true) (inv.walk reading reads modules files told) in
     rw (p.1, p.2) (so_far-fault reading modules files all _ _ _ _ _ _ so c.in_err-gather_next.field-0.0 (c.in_err-gather_next.ensures.walk reading reads modules files (inv.files ∙ told)))
 
 pub loop-source-preserved : goal.loop-source-preserved
@@ -28,7 +28,7 @@ loop-source-preserved g c =
       walk = λ reading reads modules files told.
           let all = map source_shown c.args.sources.now in
           let so = subst (λ (rest : List Source). SoFar reading modules files all rest (map unit_shown c.loop-source.units.items) (g.F.Store.trace c.args.store.now) (g.F.Store.trace c.loop-source.store))
-              (rest-at source_shown c.args.sources.now c.loop-source.source-index _ c.loop-source-test.true) (inv.walk reading reads modules files told) in
+          (rest-at source_shown c.args.sources.now c.loop-source.source-index _ c.loop-source-test.true) (inv.walk reading reads modules files told) in
           let w = next.walk reading reads modules files (inv.files ∙ told) in
           subst (λ (units : List GatheredUnit). SoFar reading modules files all (map source_shown (drop (c.loop-source.source-index + 1) c.args.sources.now)) units (g.F.Store.trace c.args.store.now) (g.F.Store.trace c.gather_next.new.store))
           (sym (units-more _ _ w.0 _ w.1 w.2))

@@ -16,10 +16,10 @@ returns-in_err-parse_next-clause-parsed c = λ reading reads modules.
     let x = c.unit-item.result in
     let f = λ (u : GatheredUnit). unit_tree reading modules u (reading.parsed u.gathered) in
     rw (p.1, p.2) (refuses-all (f (unit_shown x)) _ c.in_err-parse_next.field-0.0
-      (λ e h. c.loop-unit.invariant.parsed reading reads modules
-        ∙ ap (λ (rest : List GatheredUnit). behind (map unit_of c.loop-unit.trees.items) (unit_trees reading modules rest)) (rest-item unit_shown units i x c.loop-unit-test.true c.unit-item.is)
-        ∙ each-stop f (map unit_of c.loop-unit.trees.items) (unit_shown x) e (map unit_shown (drop (i + 1) units)) h)
-      (c.in_err-parse_next.ensures.parsed reading reads modules))
+    (λ e h. c.loop-unit.invariant.parsed reading reads modules
+    ∙ ap (λ (rest : List GatheredUnit). behind (map unit_of c.loop-unit.trees.items) (unit_trees reading modules rest)) (rest-item unit_shown units i x c.loop-unit-test.true c.unit-item.is)
+    ∙ each-stop f (map unit_of c.loop-unit.trees.items) (unit_shown x) e (map unit_shown (drop (i + 1) units)) h)
+    (c.in_err-parse_next.ensures.parsed reading reads modules))
 
 pub loop-unit-preserved : goal.loop-unit-preserved
 loop-unit-preserved c =
