@@ -43,7 +43,7 @@ module _ (setting : Setting) (words : List (List ℕ)) (a : Answer) (old new : O
 
   pub reads : ReadCauses setting words (status_of a) old new
   reads e = elim cause as (λ x. StoreFailed old new) [
-    inl none ↦ absurd (not-read (refused status.Usage bad_words a (usage none)) e)
+    | inl none ↦ absurd (not-read (refused status.Usage bad_words a (usage none)) e)
     | inr h ↦ read_cause (output_named words) _ _ _ _ a h e
   ]
 
@@ -53,13 +53,13 @@ module _ (setting : Setting) (words : List (List ℕ)) (a : Answer) (old new : O
 
   pub writes : WriteCauses setting words (status_of a) old new
   writes e = elim cause as (λ x. WriteFailed (output_named words) old new) [
-    inl none ↦ absurd (not-written (refused status.Usage bad_words a (usage none)) e)
+    | inl none ↦ absurd (not-written (refused status.Usage bad_words a (usage none)) e)
     | inr h ↦ rose (output_named words) (write_cause (output_named words) _ _ _ _ a h e)
   ]
 
   only-usage : status_of a ≡ status.Usage → command_of words ≡ None
   only-usage e = elim cause as (λ x. command_of words ≡ None) [
-    inl none ↦ none
+    | inl none ↦ none
     | inr h ↦ absurd (no_usage (output_named words) _ _ _ _ a h e)
   ]
 

@@ -23,8 +23,7 @@ impl TopCall for Program {
         store: &mut F,
         out: &mut O,
         err: &mut E,
-    ) -> Status
-    {
+    ) -> Status {
         yara_main(alloc, words, store, out, err)
     }
 }
