@@ -6,3 +6,5 @@ pub mod NumberLemmas
 pub mod PartLemmas
 pub mod MadeLemmas
 pub mod WalkLemmas
+pub mod LoopLemmas
+pub mod TurnLemmas

@@ -9,12 +9,12 @@ ghost use Rattle.yr_syntax.specs.Condition as tree;
 ghost use Rattle.yr_syntax.specs.Forms as forms;
 ghost use Rattle.yr_syntax.specs.Height as height;
 ghost use Rattle.yr_uses.specs.Around.{around_of};
+ghost use Rattle.yr_uses.specs.Meanings.{meaning_of};
 ghost use Rattle.yr_uses.specs.Views.{shown};
 ghost use Rattle.yr_nodes.specs.Fixed.{the_readers};
 ghost use Rattle.yr_nodes.specs.Nodes as spec;
 ghost use Rattle.yr_nodes.specs.Room.{IsRoomy};
 ghost use Rattle.yr_nodes.specs.Readers.{expression_of};
-ghost use Rattle.yr_rules.specs.NodeTree as node;
 ghost use Rattle.yr_nodes.specs.Shapes as shape;
 ghost use Rattle.yr_nodes.specs.Steps.{OneHasForms, one_height, one_written};
 ghost use Rattle.yr_nodes.specs.Views.{bounds, written_of, IsLow};
@@ -29,7 +29,7 @@ use crate::reading::{RegexAnswer, regex_answer};
 use crate::valued::value;
 use std::alloc::Global;
 use yr_base::NoMemory;
-use yr_rules::{Node, NodeLink, NodeOver, NodePlace, NodeQuant, NodeRange, Pattern, PrefixOp};
+use yr_rules::{Node, NodeLink, NodeOver, NodePlace, NodeQuant, NodeRange, Pattern};
 use yr_syntax::{Cond, Link, Over, PathStep, Place, Quant, Range, RegexText};
 use yr_uses::{Around, Meaning, Scope, Scopes, opened, path_meaning, then_step, word_meaning};
 
@@ -63,6 +63,14 @@ fn over_entries(meaning: Meaning<'_>) -> Option<NodeOver>
     }
 }
 
+/// What a word means where these loops are open.
+fn word_start<'a>(around: &Around<'_, 'a>, word: &[u8], scopes: &Scopes<'a>) -> Meaning<'a>
+    ensures means { shown result ≡ meaning_of (around_of around.now) word.now scopes.now }
+    ensures known { IsLow (length scopes.now) (length around.now.externals.now) (shown result) }
+{
+    word_meaning(around, word, scopes)
+}
+
 /// What is made of a condition where these loops are open.
 #[cycle(nodes)]
 fn node<'a>(
@@ -83,7 +91,16 @@ fn node<'a>(
         Cond::Text(text) => Ok(Some(Node::Text(Vec::from_slice(alloc, text)?))),
         Cond::Flag(flag) => Ok(Some(Node::Flag(*flag))),
         Cond::FileSize => Ok(Some(Node::FileSize)),
-        Cond::Path(steps) => path(alloc, exact, around, steps, scopes),
+        Cond::Path(steps) => match steps.as_slice() {
+            [] => Ok(None),
+            [head, rest @ ..] => match head {
+                PathStep::Name(word) => {
+                    let start = word_start(around, word, scopes);
+                    steps_behind(alloc, exact, around, rest, start, scopes)
+                }
+                PathStep::Index(_) | PathStep::Call(_) => Ok(None),
+            },
+        },
         Cond::Found { name, place } => {
             let string = string_ref(exact, around, name, scopes);
             Ok(found(string, node_place(alloc, exact, around, place, scopes)?))
@@ -95,7 +112,13 @@ fn node<'a>(
             let at = node(alloc, exact, around, at, scopes)?;
             read(alloc, *reader, at)
         }
-        Cond::Prefix { op, inner } => node_run(alloc, exact, around, *op, inner, scopes),
+        Cond::Prefix { op, inner } => {
+            let run = prefixes(alloc, *op, inner)?;
+            match node(alloc, exact, around, run.1, scopes)? {
+                None => Ok(None),
+                Some(operand) => Ok(Some(wrap(alloc, run.0, operand)?)),
+            }
+        }
         Cond::Chain { first, rest } => {
             let first = node(alloc, exact, around, first, scopes)?;
             let rest = links(alloc, exact, around, rest, scopes)?;
@@ -132,29 +155,6 @@ fn node<'a>(
             scopes.leave();
             for_in(alloc, asked, name, domain, body)
         }
-    }
-}
-
-/// What is made of a run of prefix operators and what stands behind it.
-#[cycle(nodes)]
-fn node_run<'a>(
-    alloc: Global,
-    exact: bool,
-    around: &Around<'_, 'a>,
-    op: PrefixOp,
-    inner: &'a Cond,
-    scopes: &mut Scopes<'a>,
-) -> Result<Option<Node>, NoMemory>
-    requires room { IsRoomy exact around.now }
-    requires forms { forms.HasForms (tree.tree_of inner.now) }
-    requires low { height.height (tree.tree_of inner.now) + length scopes.old ≤ forms.height_limit }
-    ensures scopes { OnOk result (scopes.new ≡ scopes.old) }
-    ensures node { IfOk result (λ n. option_map tree_of n ≡ option_map (node.Prefix op) (shape.shape_of exact the_readers (around_of around.now) (tree.tree_of inner.now) scopes.old)) }
-{
-    let (ops, operand) = prefixes(alloc, op, inner)?;
-    match node(alloc, exact, around, operand, scopes)? {
-        None => Ok(None),
-        Some(operand) => Ok(Some(wrap(alloc, ops, operand)?)),
     }
 }
 
@@ -322,30 +322,6 @@ fn each<'a>(
         made.push(node(alloc, exact, around, item, scopes)?)?;
     }
     Ok(made)
-}
-
-/// What is made of a path: it begins with a word.
-#[cycle(nodes)]
-fn path<'a>(
-    alloc: Global,
-    exact: bool,
-    around: &Around<'_, 'a>,
-    steps: &'a [PathStep],
-    scopes: &mut Scopes<'a>,
-) -> Result<Option<Node>, NoMemory>
-    requires room { IsRoomy exact around.now }
-    requires forms { forms.StepsHaveForms (tree.steps_of (map tree.step_of steps.now)) }
-    requires low { height.steps_height (tree.steps_of (map tree.step_of steps.now)) + length scopes.old ≤ forms.height_limit }
-    ensures scopes { OnOk result (scopes.new ≡ scopes.old) }
-    ensures node { IfOk result (λ n. option_map tree_of n ≡ shape.path_shape exact the_readers (around_of around.now) (tree.steps_of (map tree.step_of steps.now)) scopes.old) }
-{
-    match steps {
-        [PathStep::Name(word), rest @ ..] => {
-            let meaning = word_meaning(around, word, scopes);
-            steps_behind(alloc, exact, around, rest, meaning, scopes)
-        }
-        _ => Ok(None),
-    }
 }
 
 /// The index or the arguments that are written last, with one more part behind.

@@ -21,11 +21,12 @@ pub fn prefixes<'a>(
     op: PrefixOp,
     inner: &'a Cond,
 ) -> Result<(Vec<PrefixOp>, &'a Cond), NoMemory>
+    requires { HasForms (condition_of inner.now) }
     ensures shape { IfOk result (λ r. (exact : _) (readers : _) (around : _) (scopes : _)
         → option_map (Prefix op) (shape_of exact readers around (condition_of inner.now) scopes)
         ≡ option_map (wrapped r.0.items) (shape_of exact readers around (condition_of r.1.now) scopes)) }
     ensures height { IfOk result (λ r. height (condition_of r.1.now) ≡ height (condition_of inner.now)) }
-    ensures forms { IfOk result (λ r. HasForms (condition_of inner.now) → HasForms (condition_of r.1.now)) }
+    ensures forms { IfOk result (λ r. HasForms (condition_of r.1.now)) }
     ensures low { IfOk result (λ r. size-Cond r.1.now ≤ size-Cond inner.now) }
 {
     let mut ops = Vec::new(alloc);

@@ -1,6 +1,7 @@
-use Rattle.std.proofs.Common.{◌≡◌, ◌∙◌, ◌++◌, ◌∷◌, [], ap, sym, rules}
+use Rattle.std.proofs.Common.{◌≡◌, ◌∙◌, ◌++◌, ◌∷◌, [], ap, sym, subst, rules}
 use Rattle.yr_syntax.specs.Condition as tree
 use Rattle.yr_syntax.specs.declared.condition.Cond.{the_lemmas}
+use Rattle.yr_syntax.specs.Forms.{HasForms}
 use Rattle.yr_syntax.proofs.CallerLemmas.{tree_of-Prefix}
 use Rattle.yr_nodes.proofs.MadeLemmas.{prefix-step}
 use Rattle.yr_nodes.proofs.prefix.prefixes.Goals as goal
@@ -15,6 +16,6 @@ loop-operand-preserved c =
           prefix-step c.args.op c.in-Prefix.op c.loop-operand.ops.items c.push-in-Prefix.new.self.items (tree.tree_of c.args.inner.now) (tree.tree_of c.loop-operand.operand.now)
           (tree.tree_of c.deref-operand.result.now) is c.in_ok-push-2.ensures.items c.loop-operand.invariant.shape;
       height = search rules;
-      forms = search rules;
+      forms = subst HasForms is c.loop-operand.invariant.forms;
       low = search (rules, the_lemmas);
     }

@@ -17,6 +17,6 @@ invariant-loop-operand l = record {
       → option_map (Prefix l.fn.op) (shape_of exact readers around (tree_of l.inner) scopes)
       ≡ option_map (wrapped l.ops.items) (shape_of exact readers around (tree_of l.operand) scopes);
   height : height (tree_of l.operand) ≡ height (tree_of l.inner);
-  forms : HasForms (tree_of l.inner) → HasForms (tree_of l.operand);
+  forms : HasForms (tree_of l.operand);
   low : size-Cond l.operand ≤ size-Cond l.inner;
 }
