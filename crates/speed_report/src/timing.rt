@@ -73,8 +73,14 @@ fn write(image: &VerifiedImage<'_>, matches: &Matches, truths: &[Truth]) -> Coun
     out
 }
 
-fn no_memory(_why: NoMemory) -> AllocError {
-    AllocError
+fn found(alloc: Global, lists: &[Vec<(u32, u32)>]) -> Result<Matches, AllocError>
+    requires { All IsReadable (items_of lists.now) }
+    ensures { IfOk result (λ found. found.lists ≡ items_of lists.now) }
+{
+    match Matches::from_lists(alloc, lists, 0) {
+        Ok(found) => Ok(found),
+        Err(NoMemory) => Err(AllocError),
+    }
 }
 
 /// How many puts and bytes the report of a form and a size is; none where the image is not wellformed.
@@ -82,7 +88,7 @@ pub fn said(alloc: Global, form: Form, size: u32) -> anyhow::Result<(u64, u64)> 
     let draft = make_draft(alloc, form, size)?;
     let bytes = image(alloc, &draft)?;
     let lists = lists(alloc, form, size)?;
-    let matches = Matches::from_lists(alloc, &lists, 0).map_err(no_memory)?;
+    let matches = found(alloc, &lists)?;
     match verify(&bytes) {
         Ok(image) if fits(&image, draft.truths.len(), lists.len()) => {
             let out = write(&image, &matches, &draft.truths);
@@ -118,7 +124,7 @@ pub fn time(rt: HostRuntime, name: &str, form: Form, size: u32) -> anyhow::Resul
     let draft = make_draft(alloc, form, size)?;
     let bytes = image(alloc, &draft)?;
     let lists = lists(alloc, form, size)?;
-    let matches = Matches::from_lists(alloc, &lists, 0).map_err(no_memory)?;
+    let matches = found(alloc, &lists)?;
     match verify(&bytes) {
         Ok(image) if fits(&image, draft.truths.len(), lists.len()) => {
             let (least, out) = fastest(rt, &image, &matches, &draft.truths)?;

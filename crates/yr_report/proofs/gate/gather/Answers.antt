@@ -1,4 +1,4 @@
-use Rattle.std.proofs.Common.{◌≡◌, ◌+◌, ◌||◌, ◌&&◌, Bool, true, false, not, ℕ, List, take, sym, ap, ◌∙◌, refl, arith}
+use Rattle.std.proofs.Common.{◌+◌, ◌||◌, ◌&&◌, take, sym, ap, ◌∙◌, arith}
 use Rattle.std.specs.Str.{bytes_eq}
 use Rattle.std.specs.List.{list_any}
 use Rattle.yr_image.specs.Image.{namespace_of}

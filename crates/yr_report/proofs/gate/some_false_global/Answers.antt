@@ -1,14 +1,11 @@
-use Rattle.std.proofs.Common.{◌≡◌, ◌+◌, ◌||◌, ◌&&◌, Bool, true, false, not, ℕ, List, sym, ap, ◌∙◌, refl, arith}
+use Rattle.std.proofs.Common.{false, sym, ◌∙◌, arith}
 use Rattle.std.specs.Str.{bytes_eq}
-use Rattle.yr_base.specs.declared.value.Truth.{Truth}
-use Rattle.yr_answer.specs.Reported.{shuts}
-use Rattle.yr_answer.specs.Truths.{is_yes}
 use Rattle.yr_image.specs.Image.{namespace_of}
 use Rattle.yr_image.specs.Views.{shown_bytes, image_of}
 use Rattle.yr_machine.specs.Listing.{has_flag}
 use Rattle.yr_report.proofs.GateLemmas.{and-none}
 use Rattle.yr_report.proofs.RowLemmas.{few-rules}
-use Rattle.yr_report.proofs.JudgedLemmas.{shut_from, shut-first, shut-next, shut-none}
+use Rattle.yr_report.proofs.JudgedLemmas.{shut-first, shut-next, shut-none}
 use Rattle.yr_report.proofs.gate.some_false_global.Goals as goal
 
 pub loop-k-init : goal.loop-k-init
