@@ -3,5 +3,6 @@ pub mod RangeLemmas
 pub mod RowLemmas
 pub mod EntryLemmas
 pub mod JudgedLemmas
+pub mod GateLemmas
 pub mod CallerLemmas
 mod Hexadecimal

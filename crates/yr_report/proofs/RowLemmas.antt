@@ -16,6 +16,7 @@ use Rattle.yr_machine.specs.Rows.{end_before, notes_end, strings_end, code_end, 
 use Rattle.yr_machine.specs.Wellformed.{IsWellformed}
 use Rattle.yr_verifier.proofs.CallerLemmas.{has_sections}
 use Rattle.yr_report.specs.Scenes.{HasRanges}
+use Rattle.yr_report.proofs.CallerLemmas.{rule_count}
 use Rattle.yr_report.proofs.RangeLemmas.{there}
 
 -- ---- sizes
@@ -42,6 +43,11 @@ few-rules bytes w =
     let width = rule_width (version_in bytes) in
     let part = bytes_of bytes 0 in
     omega (arith, length-rows_in width (rule_row (version_in bytes)) part, div-le_self (length part) width, section-small bytes 0 w)
+
+pub most-rules : (bytes : List ℕ) → IsWellformed bytes → length (image_in bytes).rules ≤ 65535
+most-rules bytes w =
+    let has = has_sections bytes w in
+    omega (arith, rule_count bytes has, (has.sections 0 (omega arith)).rules refl)
 
 few-notes : (bytes : List ℕ) → IsWellformed bytes → length (image_in bytes).notes < 2 ^ 32
 few-notes bytes w =

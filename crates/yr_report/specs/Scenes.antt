@@ -1,6 +1,11 @@
--- What a report is made of, and whether a namespace is shut.
-use Rattle.std.specs.Prelude.{◌≡◌, ◌≤◌, ◌<◌, ◌^◌, Bool, List, length, zip}
+-- What a report is made of, and which namespaces are shut.
+use Rattle.std.specs.Prelude.{◌≡◌, ℕ, ◌≤◌, ◌<◌, ◌^◌, Bool, List, length, zip}
+use Rattle.std.specs.Borrow.{Bor}
 use Rattle.std.specs.List.{list_any}
+use Rattle.std.specs.List.Sorted.{IsSorted}
+use Rattle.std.specs.Ordering.{nat_cmp}
+use Rattle.std.specs.Str.{bytes_eq}
+use Rattle.std.specs.Cmp.Lexicographic.{slice_cmp}
 use Rattle.yr_answer.specs.MatchList.{Match}
 use Rattle.yr_answer.specs.Listing.{ListedRule}
 use Rattle.yr_answer.specs.Reported.{shuts}
@@ -12,7 +17,6 @@ use Rattle.yr_machine.specs.Listing.{listed_rules}
 use Rattle.yr_machine.specs.Rows.{notes_end, strings_end}
 use Rattle.yr_machine.specs.Wellformed.{IsWellformed}
 use Rattle.yr_report.specs.declared.scene.Scene.{Scene}
-use Rattle.yr_report.specs.declared.gate.Gate.{Gate}
 
 -- the matches of its strings
 abbrev pub lists_of : Scene → List (List Match)
@@ -35,6 +39,15 @@ pub record IsGoodScene (scene : Scene) : Type 0 where
   pub lists : length (lists_of scene) ≡ length (image_of scene.view).strings
   pub results : length scene.results.now ≡ length (image_of scene.view).rules
 
--- what is known of a namespace is so
-abbrev pub IsGate : Scene → Gate → Type 0
-IsGate scene gate = gate.shut ≡ list_any (shuts gate.namespace.now) (judged_of scene)
+-- a name is the one that is asked
+abbrev pub is_text : (asked : List ℕ) → Bor (List ℕ) → Bool
+is_text asked name = bytes_eq name.now asked
+
+-- no name is less than the one before it
+abbrev pub AreSorted : List (Bor (List ℕ)) → Type 0
+AreSorted names = IsSorted (λ x y. slice_cmp nat_cmp x.now y.now) names
+
+-- these are the namespaces of the false global rules, in their order
+pub record AreShut (scene : Scene) (names : List (Bor (List ℕ))) : Type 0 where
+  pub sorted : AreSorted names
+  pub same : (name : List ℕ) → list_any (shuts name) (judged_of scene) ≡ list_any (is_text name) names

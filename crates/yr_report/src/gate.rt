@@ -1,24 +1,18 @@
 //! Namespaces that a false global rule shuts.
 
-ghost use Rattle.std.specs.Prelude.{◌≡◌, ◌<◌, ◌/◌, ◌%◌, Some, Bool, slice_get};
+ghost use Rattle.std.specs.Prelude.{◌≡◌, ◌<◌, ◌≤◌, ◌+◌, ◌/◌, ◌%◌, ◌&&◌, ◌||◌, ℕ, Bool, false, not, List, length, take};
 ghost use Rattle.std.specs.List.{list_any};
+ghost use Rattle.std.specs.Str.{bytes_eq};
 ghost use Rattle.yr_answer.specs.Reported.{shuts};
 ghost use Rattle.yr_answer.specs.Truths.{is_yes};
 ghost use Rattle.yr_image.specs.Views.{image_of};
-ghost use Rattle.yr_machine.specs.Listing.{has_flag, listed_rule};
-ghost use Rattle.yr_report.specs.Scenes.{judged_of, IsGoodScene, IsGate};
+ghost use Rattle.yr_machine.specs.Listing.{has_flag};
+ghost use Rattle.yr_report.specs.Scenes.{judged_of, is_text, AreSorted, AreShut, IsGoodScene};
 
 use crate::scene::Scene;
 use crate::text::namespace;
 use yr_base::Truth;
 use yr_image::RuleRow;
-
-/// A namespace, and whether a global rule of it is false.
-#[derive(Clone, Copy)]
-pub struct Gate<'a> {
-    pub namespace: &'a [u8],
-    pub shut: bool,
-}
 
 /// Whether a flag is set among others.
 pub fn has_flag(flags: u32, flag: u32) -> bool
@@ -38,51 +32,81 @@ pub fn is_yes(truth: Truth) -> bool
     }
 }
 
-// Whether this is a false global rule of the namespace.
-fn shuts(scene: &Scene<'_, '_>, rule: &RuleRow, truth: Truth, name: &[u8]) -> bool
-    ensures { result ≡ shuts name.now (listed_rule (image_of scene.now.view) rule.now, is_yes truth) }
+fn is_false_global(rule: &RuleRow, truth: Truth) -> bool
+    ensures { result ≡ has_flag 1 rule.now.flags && not (is_yes truth) }
 {
-    has_flag(u32::from(rule.flags), 1) && !is_yes(truth) && namespace(&scene.view, rule) == name
+    has_flag(u32::from(rule.flags), 1) && !is_yes(truth)
 }
 
-// Whether some global rule of the namespace is false.
-fn is_shut(scene: &Scene<'_, '_>, name: &[u8]) -> bool
+/// Whether some global rule is false.
+pub fn some_false_global(scene: &Scene<'_, '_>) -> bool
     requires good { IsGoodScene scene.now }
-    ensures { result ≡ list_any (shuts name.now) (judged_of scene.now) }
+    ensures { (name : List ℕ) → result ≡ false → list_any (shuts name) (judged_of scene.now) ≡ false }
 {
     for k in 0..scene.results.len() {
         let rule = scene.view.rule(k as u32);
-        if shuts(scene, &rule, scene.results[k], name) {
+        if is_false_global(&rule, scene.results[k]) {
             return true;
         }
     }
     false
 }
 
-/// What is known of a namespace, from what is known of the one that was asked before.
-pub fn gate_of<'a>(scene: &Scene<'a, '_>, last: Gate<'a>, name: &'a [u8]) -> Gate<'a>
-    requires good { IsGoodScene scene.now }
-    requires last { IsGate scene.now last }
-    ensures gate { IsGate scene.now result }
-    ensures namespace { result.namespace.now ≡ name.now }
+// Adds a name to the first of them, where it is so.
+fn add_name<'a>(names: &mut [&'a [u8]; 65_536], count: usize, name: &'a [u8], more: bool) -> usize
+    requires { count < 65536 }
+    ensures within { result ≤ count + 1 }
+    ensures len { length names.new ≡ 65536 }
+    ensures same { (asked : List ℕ) → list_any (is_text asked) (take result names.new) ≡
+        (list_any (is_text asked) (take count names.old) || (more && bytes_eq name.now asked)) }
 {
-    if last.namespace == name {
-        return last;
+    if more {
+        names[count] = name;
+        return count + 1;
     }
-    Gate {
-        namespace: name,
-        shut: is_shut(scene, name),
-    }
+    count
 }
 
-/// What is known of a namespace at the start.
-pub fn first_gate<'a>(scene: &Scene<'a, '_>) -> Gate<'a>
+// Gathers the namespaces of the false global rules, and returns how many there are.
+fn gather<'a>(scene: &Scene<'a, '_>, names: &mut [&'a [u8]; 65_536]) -> usize
     requires good { IsGoodScene scene.now }
-    ensures gate { IsGate scene.now result }
+    ensures within { result ≤ 65536 }
+    ensures len { length names.new ≡ 65536 }
+    ensures same { (name : List ℕ) → list_any (shuts name) (judged_of scene.now) ≡ list_any (is_text name) (take result names.new) }
 {
-    let name: &[u8] = b"default";
-    Gate {
-        namespace: name,
-        shut: is_shut(scene, name),
+    let mut count = 0;
+    for k in 0..scene.results.len() {
+        let rule = scene.view.rule(k as u32);
+        let more = is_false_global(&rule, scene.results[k]);
+        count = add_name(names, count, namespace(&scene.view, &rule), more);
     }
+    count
+}
+
+// Puts names in their order.
+fn sort(names: &mut [&[u8]])
+    ensures sorted { AreSorted names.new }
+    ensures len { length names.new ≡ length names.old }
+    ensures same { (name : List ℕ) → list_any (is_text name) names.new ≡ list_any (is_text name) names.old }
+{
+    names.sort_unstable();
+}
+
+/// Gathers the namespaces of the false global rules in their order, and returns how many there are.
+pub fn shut_namespaces<'a>(scene: &Scene<'a, '_>, names: &mut [&'a [u8]; 65_536]) -> usize
+    requires good { IsGoodScene scene.now }
+    ensures within { result ≤ length names.new }
+    ensures shut { AreShut scene.now (take result names.new) }
+{
+    let count = gather(scene, names);
+    sort(&mut names[..count]);
+    count
+}
+
+/// Whether a namespace is one of these.
+pub fn is_shut(names: &[&[u8]], name: &[u8]) -> bool
+    requires sorted { AreSorted names.now }
+    ensures { result ≡ list_any (is_text name.now) names.now }
+{
+    names.binary_search(&name).is_ok()
 }

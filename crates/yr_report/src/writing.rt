@@ -10,16 +10,15 @@ ghost use Rattle.yr_image.specs.Reading.{image_in};
 ghost use Rattle.yr_image.specs.Views.{image_of};
 ghost use Rattle.yr_machine.specs.Listing.{image_report, listed_rule, listed_rules};
 ghost use Rattle.yr_report.specs.Adding.{waiting, Adds};
-ghost use Rattle.yr_report.specs.Scenes.{lists_of, judged_of, HasRanges, IsGoodScene};
+ghost use Rattle.yr_report.specs.Scenes.{lists_of, judged_of, HasRanges, AreShut, IsGoodScene};
 ghost use Rattle.yr_verifier.specs.Verified.{bytes_of};
 
 use crate::adding::add_all;
 use crate::counting::{count_reported, is_reported};
-use crate::gate::{first_gate, gate_of};
+use crate::gate::{shut_namespaces, some_false_global};
 use crate::line::{Failed, Line};
 use crate::rule::put_rule;
 use crate::scene::Scene;
-use crate::text::namespace;
 use itoa::Buffer;
 use yr_answer::ReportOptions;
 use yr_base::{PutAnswer, Sink, Truth};
@@ -71,8 +70,14 @@ fn put_reported<O: Sink>(
 }
 
 // Puts the lines of the reported rules.
-fn put_rules<O: Sink>(scene: &Scene<'_, '_>, line: &mut Line, out: &mut O) -> Result<(), Failed>
+fn put_rules<O: Sink>(
+    scene: &Scene<'_, '_>,
+    names: &[&[u8]],
+    line: &mut Line,
+    out: &mut O,
+) -> Result<(), Failed>
     requires good { IsGoodScene scene.now }
+    requires shut { AreShut scene.now names.now }
     requires nothing { waiting line.old ≡ [] }
     ensures later { O.faults out.old ≤ O.faults out.new }
     ensures added { Adds (O.written out.old) (O.written out.new) (waiting line.old) (waiting line.new)
@@ -80,14 +85,54 @@ fn put_rules<O: Sink>(scene: &Scene<'_, '_>, line: &mut Line, out: &mut O) -> Re
         result (O.faults out.old) (O.faults out.new) }
     ensures empty { IfOk result (λ u. waiting line.new ≡ []) }
 {
-    let mut gate = first_gate(scene);
     for k in 0..scene.results.len() {
         let rule = scene.view.rule(k as u32);
-        gate = gate_of(scene, gate, namespace(&scene.view, &rule));
-        let reported = is_reported(scene, &rule, scene.results[k], gate);
+        let reported = is_reported(scene, names, &rule, scene.results[k]);
         put_reported(scene, line, out, &rule, reported)?;
     }
     Ok(())
+}
+
+// Puts the report, where these namespaces are shut.
+fn put_report_with<O: Sink>(
+    scene: &Scene<'_, '_>,
+    names: &[&[u8]],
+    line: &mut Line,
+    out: &mut O,
+) -> Result<(), Failed>
+    requires good { IsGoodScene scene.now }
+    requires shut { AreShut scene.now names.now }
+    requires nothing { waiting line.old ≡ [] }
+    ensures later { O.faults out.old ≤ O.faults out.new }
+    ensures added { Adds (O.written out.old) (O.written out.new) (waiting line.old) (waiting line.new)
+        (image_report (image_of scene.now.view) (truths_shown scene.now.results.now) (lists_of scene.now) scene.now.options scene.now.target.now)
+        result (O.faults out.old) (O.faults out.new) }
+    ensures empty { IfOk result (λ u. waiting line.new ≡ []) }
+{
+    if scene.options.count {
+        return put_count(line, out, count_reported(scene, names));
+    }
+    put_rules(scene, names, line, out)
+}
+
+// Puts the report, with the namespaces that are shut gathered on the stack.
+fn put_report_gathered<O: Sink>(
+    scene: &Scene<'_, '_>,
+    line: &mut Line,
+    out: &mut O,
+) -> Result<(), Failed>
+    requires good { IsGoodScene scene.now }
+    requires nothing { waiting line.old ≡ [] }
+    ensures later { O.faults out.old ≤ O.faults out.new }
+    ensures added { Adds (O.written out.old) (O.written out.new) (waiting line.old) (waiting line.new)
+        (image_report (image_of scene.now.view) (truths_shown scene.now.results.now) (lists_of scene.now) scene.now.options scene.now.target.now)
+        result (O.faults out.old) (O.faults out.new) }
+    ensures empty { IfOk result (λ u. waiting line.new ≡ []) }
+{
+    let nothing: &[u8] = b"";
+    let mut names = [nothing; 65_536];
+    let count = shut_namespaces(scene, &mut names);
+    put_report_with(scene, &names[..count], line, out)
 }
 
 // Puts the report.
@@ -100,10 +145,11 @@ fn put_report<O: Sink>(scene: &Scene<'_, '_>, line: &mut Line, out: &mut O) -> R
         result (O.faults out.old) (O.faults out.new) }
     ensures empty { IfOk result (λ u. waiting line.new ≡ []) }
 {
-    if scene.options.count {
-        return put_count(line, out, count_reported(scene));
+    if some_false_global(scene) {
+        put_report_gathered(scene, line, out)
+    } else {
+        put_report_with(scene, &[], line, out)
     }
-    put_rules(scene, line, out)
 }
 
 /// Writes the report on a scan: its target, the matches of the image's strings and the truths of its rules. It takes

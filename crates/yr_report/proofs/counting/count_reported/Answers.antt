@@ -7,7 +7,6 @@ use Rattle.yr_report.proofs.counting.count_reported.Goals as goal
 pub loop-k-init : goal.loop-k-init
 loop-k-init c =
     let first = count-first c.args.scene.now in record {
-      gate = c.first_gate-gate.ensures.gate;
       few = omega arith;
       counted = omega (arith, first);
     }
@@ -19,9 +18,8 @@ pub loop-k-preserved : goal.loop-k-preserved
 loop-k-preserved c =
     let scene = c.args.scene.now in
     let l = c.loop-k in
-    let next : count_from scene l.k ≡ cond c.is_reported.result 1 0 + count_from scene (l.k + 1) =
-    count-next scene l.k c.rule-rule.result _ c.is_reported.result c.loop-k-test.true c.rule-rule.ensures c.is_reported.ensures in record {
-      gate = c.gate_of-gate.ensures.gate;
+    let next : count_from scene l.k ≡ cond c.is_reported-reported.result 1 0 + count_from scene (l.k + 1) =
+    count-next scene l.k c.rule-rule.result _ c.is_reported-reported.result c.loop-k-test.true c.rule-rule.ensures c.is_reported-reported.ensures in record {
       few = omega (arith, l.invariant.few, c.plus-count.ensures.within);
       counted = omega (arith, l.invariant.counted, next, c.plus-count.ensures.value);
     }

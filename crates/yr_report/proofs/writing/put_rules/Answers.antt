@@ -17,7 +17,6 @@ loop-k-init g c =
     let text = rule_text (lists_of scene) scene.options scene.target.now in
     let all = flat_map text (reported_of scene.options.negate (listed_rules (image_of scene.view)) (truths_shown scene.results.now)) in record {
       later = omega arith;
-      gate = c.first_gate-gate.ensures.gate;
       goes =
           subst (λ (l : List ℕ). Goes (g.O.Sink.written c.args.out.now) (g.O.Sink.written c.args.out.now) (waiting c.args.line.now) (waiting c.args.line.now) l all)
           (report-first scene text) (goes-start _ _ all);
@@ -54,7 +53,6 @@ loop-k-preserved g c =
     let rule = listed_rule image c.rule-rule.result in
     let next = report-next scene text l.k c.rule-rule.result _ inside c.rule-rule.ensures in record {
       later = search rules;
-      gate = c.gate_of-gate.ensures.gate;
       goes =
           goes-on _ l.invariant.goes
           (next ∙ ap (λ b. on_request b (text rule) ++ report_from scene text (l.k + 1)) (sym c.is_reported-reported.ensures)) c.in_ok-put_reported.ensures.added;

@@ -5,7 +5,7 @@ use Rattle.yr_answer.specs.Truths.{truths_shown}
 use Rattle.yr_image.specs.Views.{image_of}
 use Rattle.yr_machine.specs.Listing.{listed_rules}
 use Rattle.yr_report.specs.Adding.{waiting}
-use Rattle.yr_report.specs.Scenes.{lists_of, IsGate}
+use Rattle.yr_report.specs.Scenes.{lists_of}
 use Rattle.yr_report.proofs.AddLemmas.{Goes}
 use Rattle.yr_report.proofs.JudgedLemmas.{report_from}
 use Rattle.yr_report.proofs.writing.put_rules.Given as goal
@@ -14,7 +14,6 @@ use Rattle.yr_report.proofs.writing.put_rules.Given as goal
 abbrev pub invariant-loop-k : goal.invariant-loop-k
 invariant-loop-k g l = record {
   later : g.O.Sink.faults l.fn.out ≤ g.O.Sink.faults l.out;
-  gate : IsGate l.scene l.gate;
   goes : Goes (g.O.Sink.written l.fn.out) (g.O.Sink.written l.out) (waiting l.fn.line) (waiting l.line)
       (report_from l.scene (rule_text (lists_of l.scene) l.scene.options l.scene.target.now) l.k)
       (flat_map (rule_text (lists_of l.scene) l.scene.options l.scene.target.now)
