@@ -9,7 +9,7 @@ use std::alloc::{AllocError, Global};
 use std::env;
 use std::marker::Brand;
 use std::sync::ledger::{Blank, Ledger};
-use std::time::Instant;
+use std::time::CpuClock;
 use yr_automaton::{AutomatonRows, build};
 use yr_base::{Atom, Steps};
 
@@ -101,6 +101,11 @@ fn walk(rt: HostRuntime, count: u32, letters: u8, bytes: u32) -> anyhow::Result<
     Ok(())
 }
 
+/// The processor time of this thread so far.
+fn seconds(rt: HostRuntime) -> anyhow::Result<f64> {
+    Ok(rt.thread_cpu_time()?.as_secs_f64())
+}
+
 fn time_walk(rt: HostRuntime, count: u32, letters: u8, bytes: u32) -> anyhow::Result<()>
     requires few { count < 2 ^ 30 }
     requires letters { 0 < letters }
@@ -108,18 +113,18 @@ fn time_walk(rt: HostRuntime, count: u32, letters: u8, bytes: u32) -> anyhow::Re
     let alloc = rt.alloc();
     let atoms = make_atoms(alloc, count, letters)?;
     let text = make_text(alloc, bytes, letters)?;
-    let start = Instant::now(&rt)?;
+    let start = seconds(rt)?;
     let Ok(automaton) = build(alloc, &atoms) else {
         bail!("no memory");
     };
-    let built = start.elapsed(&rt)?.as_millis();
+    let built = (seconds(rt)? - start) * 1000.0;
     let rows = automaton.rows();
-    let start = Instant::now(&rt)?;
+    let start = seconds(rt)?;
     let outputs = count_outputs::<Brand>(Blank::new(1), &rows, &text);
-    let walked = start.elapsed(&rt)?.as_millis();
-    let rate = u128::from(bytes) * 1000 / (walked + 1);
+    let walked = seconds(rt)? - start;
+    let rate = f64::from(bytes) / walked / 1e6;
     println!(rt;
-        "{count} atoms of {letters} letters: built in {built} ms; {bytes} bytes in {walked} ms, {rate} bytes a second, {outputs} outputs"
+        "{count} atoms of {letters} letters: built in {built:.0} ms; {bytes} bytes at {rate:.0} MB/s, {outputs} outputs"
     )?;
     Ok(())
 }
