@@ -7,8 +7,7 @@ mod timing;
 
 use programs::{Program, gap, nested, runs};
 use std::alloc::{AllocError, Global};
-use std::env;
-use std::fs;
+use std::{env, fs};
 use timing::{By, find, time};
 
 /// How many bytes the walk goes over.
@@ -46,7 +45,14 @@ fn main(rt: HostRuntime) -> anyhow::Result<()> {
                 time(rt, name, "file, walk", By::Walk, program, &file)?;
                 time(rt, name, "few a, walk", By::Walk, program, &few)?;
                 time(rt, name, "few a, each place", By::Each, program, &few)?;
-                time(rt, name, "half of these, each place", By::Each, program, &fewer)?;
+                time(
+                    rt,
+                    name,
+                    "half of these, each place",
+                    By::Each,
+                    program,
+                    &fewer,
+                )?;
             }
         }
     }
@@ -67,8 +73,11 @@ fn repeated(alloc: Global, piece: &[u8], size: usize) -> Result<Vec<u8>, AllocEr
 
 // How many places have an end, and the sum of the ends, by both.
 fn show(rt: HostRuntime, name: &str, program: &Program, text: &[u8]) -> anyhow::Result<()> {
-    let walked = find(rt.alloc(), By::Walk, program, text)?;
-    let asked = find(rt.alloc(), By::Each, program, text)?;
-    println!(rt; "{name}: {} places, ends {}; asked one by one: {} places, ends {}", walked.places, walked.ends, asked.places, asked.ends)?;
+    let walked = find(rt.alloc(), By::Walk, program, text);
+    let asked = find(rt.alloc(), By::Each, program, text);
+    println!(rt;
+        "{name}: {} places, ends {}; asked one by one: {} places, ends {}",
+        walked.places, walked.ends, asked.places, asked.ends
+    )?;
     Ok(())
 }

@@ -103,6 +103,7 @@ module _ (walk : Walk) (i : ℕ) (hit : Bool) (near beyond near' far' : Option �
       at true s there =
           let b = (behind_some j there).0 in (of_end j (b.0, omega (arith, b.1), b.2), omega (arith, b.1, level))
       at false s there = let b = (best_some j there).0 in (of_end j b, omega (arith, b.1, level, not_zero walk.atom s))
+
       of : (h : Bool) → hit ≡ h → (hit ≡ true) × IsEndOf walk i j × (i < j)
       of true t =
           let there : FarOf (walk.atom == 0) ≡ Some j = sym (far_is ∙ ap (λ b. if b then FarOf (walk.atom == 0) else None) t) ∙ is in

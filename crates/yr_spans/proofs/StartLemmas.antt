@@ -202,11 +202,14 @@ module _ (walk : Walk) where
       where
         of : (o : Option ℕ) → result ≡ o → IsBestOf walk.greedy (StartsAt walk told far i) o
         of None is = λ j s. let f = any_found j s in let both : None ≡ Some f.0 = sym is ∙ f.1 in cc both
-        of (Some r) is = (starts r is, λ o s.
-            let f = any_found o s in
-            let both : Some f.0 ≡ Some r = sym f.1 ∙ is in
-            let same : f.0 ≡ r = cc both in
-            let N : ℕ → Type 0 = λ n. IsNoWorse walk.greedy n o in subst N same f.2)
+        of (Some r) is = (
+          starts r is,
+          λ o s.
+              let f = any_found o s in
+              let both : Some f.0 ≡ Some r = sym f.1 ∙ is in
+              let same : f.0 ≡ r = cc both in
+              let N : ℕ → Type 0 = λ n. IsNoWorse walk.greedy n o in subst N same f.2,
+        )
 
 -- what the lists say does not look at the walk's own place
 pub moved_carried : (walk : Walk) (p i : ℕ) (told : List Told) (items : List Carried) → AreCarried walk told i items → AreCarried (record walk { place = p }) told i items

@@ -95,8 +95,22 @@ pub fn spans<'a>(
     ensures midway { IsMidway result [] marks.new }
 {
     let last = first_place(file.len() as u32, atom);
-    let ends = ends(after.rows, after.edges, file, greedy, border, &mut marks.ends);
-    let starts = starts(before.rows, before.edges, file, greedy, last, &mut marks.starts);
+    let ends = ends(
+        after.rows,
+        after.edges,
+        file,
+        greedy,
+        border,
+        &mut marks.ends,
+    );
+    let starts = starts(
+        before.rows,
+        before.edges,
+        file,
+        greedy,
+        last,
+        &mut marks.starts,
+    );
     SpanWalk {
         ends,
         starts,
@@ -116,7 +130,12 @@ fn first_place(size: u32, atom: u32) -> u32
 
 // What is told at a place: nothing, or the best end of a span that reads a byte before the atom, and of one that reads
 // none. An empty atom wants an end behind it.
-fn told_at(hit: bool, atom: u32, near: Option<u32>, beyond: Option<u32>) -> (Option<u32>, Option<u32>)
+fn told_at(
+    hit: bool,
+    atom: u32,
+    near: Option<u32>,
+    beyond: Option<u32>,
+) -> (Option<u32>, Option<u32>)
     ensures near { result.0 ≡ (if hit then near else None) }
     ensures far { result.1 ≡ (if hit then (if (atom == 0) then beyond else near) else None) }
 {

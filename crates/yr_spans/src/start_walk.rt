@@ -174,7 +174,18 @@ fn merge<L: Ledger>(
     let split = split_point(carried, own, greedy);
     carry(rows, edges, file, i, byte, carried, 0, split, list, steps);
     carry(rows, edges, file, i, byte, own, 0, own.len(), list, steps);
-    carry(rows, edges, file, i, byte, carried, split, carried.len(), list, steps);
+    carry(
+        rows,
+        edges,
+        file,
+        i,
+        byte,
+        carried,
+        split,
+        carried.len(),
+        list,
+        steps,
+    );
 }
 
 // The byte at a place.

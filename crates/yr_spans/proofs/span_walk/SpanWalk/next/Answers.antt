@@ -30,19 +30,19 @@ returns-clause-span g c = λ hits midway.
     let Hits : List ℕ = if c.args.hit then i ∷ hits else hits in
     let best = c.next-best.ensures.start m.told m.midway in
     let border : c.has_left_border.result ≡ has_left_border w.ends.border w.ends.file i =
-        c.has_left_border.ensures ∙ ap (λ p. has_left_border c.self.inside.border c.self.inside.file.now p) c.place.ensures
-        ∙ ap (λ b. has_left_border b c.self.inside.file.now i) c.self.invariant.0 ∙ ap (λ f. has_left_border w.ends.border f i) c.self.invariant.1
+    c.has_left_border.ensures ∙ ap (λ p. has_left_border c.self.inside.border c.self.inside.file.now p) c.place.ensures
+    ∙ ap (λ b. has_left_border b c.self.inside.file.now i) c.self.invariant.0 ∙ ap (λ f. has_left_border w.ends.border f i) c.self.invariant.1
     in
     let B : Option ℕ → Type 0 = λ o. IsBestOf w.ends.greedy (IsCounted w Hits i) o in
     let here : IsBestOf w.ends.greedy (IsCounted w Hits i) c.if-has_left_border.result = elim c.if-has_left_border.branch [
       | then-has_left_border v ↦
           subst B (sym v.result-is)
           (best_span w i c.args.hit c.next-near.result.0 c.next-near.result.1 c.told_at-near.result.0 c.told_at-near.result.1 e level c.next-near.ensures.end c.next-near.ensures.beyond
-           c.told_at-near.ensures.near c.told_at-near.ensures.far m.told hits m.are above ready.greedy c.next-best.result best (sym border ∙ v.if-has_left_border.true))
+          c.told_at-near.ensures.near c.told_at-near.ensures.far m.told hits m.are above ready.greedy c.next-best.result best (sym border ∙ v.if-has_left_border.true))
       | else-has_left_border v ↦
           subst B (sym v.result-is)
           (no_span w i c.args.hit c.next-near.result.0 c.next-near.result.1 c.told_at-near.result.0 c.told_at-near.result.1 e level c.next-near.ensures.end c.next-near.ensures.beyond
-           c.told_at-near.ensures.near c.told_at-near.ensures.far m.told hits m.are above ready.greedy (λ yes_border. true≢false (sym yes_border ∙ sym border ∙ v.if-has_left_border.false)))
+          c.told_at-near.ensures.near c.told_at-near.ensures.far m.told hits m.are above ready.greedy (λ yes_border. true≢false (sym yes_border ∙ sym border ∙ v.if-has_left_border.false)))
     ] in
     let W : Walk → Type 0 = λ x. IsBestOf x.ends.greedy (IsCounted x Hits i) c.if-has_left_border.result in subst W c.self.view_is here
 
@@ -66,8 +66,8 @@ returns-clause-midway g c = λ hits midway.
     let Hits : List ℕ = if c.args.hit then i ∷ hits else hits in
     let t : starts.Told = record { at = i; near = c.told_at-near.result.0; far = c.told_at-near.result.1 } in
     let told =
-        told_more w i c.args.hit c.next-near.result.0 c.next-near.result.1 c.told_at-near.result.0 c.told_at-near.result.1 e level c.next-near.ensures.end c.next-near.ensures.beyond
-        c.told_at-near.ensures.near c.told_at-near.ensures.far m.told hits m.are above ready.greedy
+    told_more w i c.args.hit c.next-near.result.0 c.next-near.result.1 c.told_at-near.result.0 c.told_at-near.result.1 e level c.next-near.ensures.end c.next-near.ensures.beyond
+    c.told_at-near.ensures.near c.told_at-near.ensures.far m.told hits m.are above ready.greedy
     in
     record {
       told = t ∷ m.told;

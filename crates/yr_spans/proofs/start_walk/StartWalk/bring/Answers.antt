@@ -54,7 +54,7 @@ returns-in-Some-clause-merges g c = λ b at.
     let same : c.in-Some.b ≡ b = cc both in
     let M : Walk → Type 0 = λ x. Merges x.moves x.sets x.file x.place c.in-Some.b x.greedy c.args.carried.now.items c.args.own.now.items c.merge.new.list.items in
     let N : ℕ → Type 0 = λ n.
-        Merges c.args.self.now.moves c.args.self.now.sets c.args.self.now.file c.args.self.now.place n c.args.self.now.greedy c.args.carried.now.items c.args.own.now.items c.merge.new.list.items
+    Merges c.args.self.now.moves c.args.self.now.sets c.args.self.now.file c.args.self.now.place n c.args.self.now.greedy c.args.carried.now.items c.args.own.now.items c.merge.new.list.items
     in
     subst N same (subst M c.self.view_is c.merge.ensures.merges)
 

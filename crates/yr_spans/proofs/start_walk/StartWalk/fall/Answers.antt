@@ -109,7 +109,7 @@ returns-clause-midway g c = λ told midway.
     let next = midway_next w0 told old i place c.requires.ready midway new c.args.near c.args.far carried (subst O is c.begin.ensures.own) (omega (arith, c.requires.ready.place, c.requires.more)) in
     let N : Walk → Type 0 = λ x. IsMidway x (record { at = x.place; near = c.args.near; far = c.args.far } ∷ told) new in
     let K : Shown → Type 0 = λ s.
-        IsMidway c.step_down.new.self (record { at = c.step_down.new.self.place; near = c.args.near; far = c.args.far } ∷ told) (record { carried = s; own = c.begin.new.own })
+    IsMidway c.step_down.new.self (record { at = c.step_down.new.self.place; near = c.args.near; far = c.args.far } ∷ told) (record { carried = s; own = c.begin.new.own })
     in
     subst K (sym c.swap.ensures.x_after) (subst N (sym is) next)
 

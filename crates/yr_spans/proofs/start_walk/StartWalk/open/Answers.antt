@@ -30,7 +30,7 @@ close-requires-clause-below g c =
     let B : Bool → Type 0 = λ b. AreBelow (bound b (length w.moves)) c.join.new.list.items in
     subst B (sym c.self.invariant.0)
     (mid_below c.args.end c.args.own.now c.add.new.self c.requires.empty c.add.ensures w.moves w.sets w.file w.place (subst G (sym c.self.view_is) c.requires.wellformed) c.join.new.list.items
-     (subst S c.self.invariant.0 c.join.ensures.spreads))
+    (subst S c.self.invariant.0 c.join.ensures.spreads))
 
 pub close-requires-clause-from : goal.close-requires-clause-from
 close-requires-clause-from g c =
@@ -63,8 +63,8 @@ returns-clause-own g c =
     let O : Walk → Type 0 = λ x. AreOwn x (Some c.args.end) x.place new in
     subst O c.self.view_is
     (own_opened w w.place c.args.end new
-     (new_from c.args.end c.args.own.now c.add.new.self c.requires.empty c.add.ensures w.moves w.sets w.file w.place good mid s new c.close.ensures.grows came joins)
-     (new_first c.args.end c.args.own.now c.add.new.self c.requires.empty c.add.ensures w.moves w.sets w.file w.place good mid s new c.close.ensures.grows came joins))
+    (new_from c.args.end c.args.own.now c.add.new.self c.requires.empty c.add.ensures w.moves w.sets w.file w.place good mid s new c.close.ensures.grows came joins)
+    (new_first c.args.end c.args.own.now c.add.new.self c.requires.empty c.add.ensures w.moves w.sets w.file w.place good mid s new c.close.ensures.grows came joins))
 
 pub returns-clause-alike : goal.returns-clause-alike
 returns-clause-alike g c =
