@@ -111,11 +111,15 @@ pub enum By {
     Each,
 }
 
-/// The ends from all places.
-pub fn find(alloc: Global, by: By, program: &Program, text: &[u8]) -> Result<Found, NoMemory> {
-    match by {
+/// The ends from all places; none where there is no memory.
+pub fn find(alloc: Global, by: By, program: &Program, text: &[u8]) -> Found {
+    let found = match by {
         By::Walk => walk(alloc, program, text),
         By::Each => each(alloc, program, text),
+    };
+    match found {
+        Ok(found) => found,
+        Err(_) => NOTHING,
     }
 }
 
@@ -132,7 +136,7 @@ pub fn time(
     let mut found = NOTHING;
     for _ in 0..RUNS {
         let start = rt.thread_cpu_time()?.as_secs_f64();
-        found = find(rt.alloc(), by, program, text)?;
+        found = find(rt.alloc(), by, program, text);
         least = least.min(rt.thread_cpu_time()?.as_secs_f64() - start);
     }
     let bytes = std::num::nearest_usize_to_f64(text.len());

@@ -3,6 +3,8 @@
 
 mod span_walk;
 mod start_walk;
+#[cfg(test)]
+mod tests;
 
 pub use span_walk::{Side, SpanMarks, SpanWalk, spans};
 pub use start_walk::{StartMarks, StartWalk, starts};
