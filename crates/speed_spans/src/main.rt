@@ -73,13 +73,8 @@ fn repeated(alloc: Global, piece: &[u8], size: usize) -> Result<Vec<u8>, AllocEr
 
 // How many places have an end, and the sum of the ends, by both.
 fn show(rt: HostRuntime, name: &str, program: &Program, text: &[u8]) -> anyhow::Result<()> {
-<<<<<<< HEAD
-    let walked = find(rt.alloc(), By::Walk, program, text)?;
-    let asked = find(rt.alloc(), By::Each, program, text)?;
-=======
     let walked = find(rt.alloc(), By::Walk, program, text);
     let asked = find(rt.alloc(), By::Each, program, text);
->>>>>>> 191dfc2ef023941daf6113f71694807268199835
     println!(rt;
         "{name}: {} places, ends {}; asked one by one: {} places, ends {}",
         walked.places, walked.ends, asked.places, asked.ends
