@@ -42,6 +42,7 @@ build() {
     echo "yara: it may be interrupted, and goes on where it stopped; its log is $log" >&2
     mkdir -p "$crate/out"
     rm -f "$program"
+    : >"$log"
     (cd "$crate" && exec rt run) >"$log" 2>&1 </dev/null &
     worker=$!
     trap 'kill "$worker" 2>/dev/null; echo >&2; exit 130' INT TERM
