@@ -1,5 +1,5 @@
 -- The ends of two lists, brought over a byte in the order of how good they are.
-use Rattle.std.proofs.Common.{◌≡◌, ℕ, zero, suc, ◌+◌, ◌<◌, ◌≤◌, ◌⊎◌, inl, inr, Bool, true, false, List, [], length, Option, Some, None, refl, sym, ap, ◌∙◌, subst, arith}
+use Rattle.std.proofs.Common.{◌≡◌, ℕ, ◌<◌, ◌≤◌, ◌⊎◌, inl, inr, Bool, false, List, [], length, Some, arith}
 use Rattle.std.specs.Prelude.{slice_get}
 use Rattle.std.proofs.lemmas.Bool.{cases_lt}
 use Rattle.yr_rows.specs.declared.moves.MoveRow.{MoveRow}
@@ -8,7 +8,7 @@ use Rattle.yr_ends.specs.Carried.{Holds, IsNoWorse, Falls}
 use Rattle.yr_ends.specs.Arcs.{Joins, Stays}
 use Rattle.yr_ends.specs.Spreads.{HoldsAs, IsReady, Carries}
 use Rattle.yr_ends.proofs.ListLemmas.{get_within}
-use Rattle.yr_ends.proofs.HoldLemmas.{nothing_held, no_worse_is, no_worse_trans}
+use Rattle.yr_ends.proofs.HoldLemmas.{nothing_held, no_worse_is}
 use Rattle.yr_ends.proofs.SpreadLemmas.{stays_join}
 use Rattle.yr_spans.specs.StartWalks.{AreAlike, Merges}
 

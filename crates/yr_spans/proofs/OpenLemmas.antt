@@ -1,14 +1,14 @@
 -- The end that is told at a place: move 0 and what it leads to.
-use Rattle.std.proofs.Common.{◌≡◌, ℕ, zero, suc, ◌+◌, ◌<◌, ◌≤◌, ◌⊎◌, inl, inr, Bool, true, false, List, [], ◌∷◌, ◌++◌, length, Option, Some, None, refl, sym, ap, ◌∙◌, subst, arith}
+use Rattle.std.proofs.Common.{◌≡◌, ℕ, ◌≤◌, inl, inr, Bool, false, List, [], ◌∷◌, ◌++◌, length, Some, None, refl, sym, ap, ◌∙◌, subst, arith}
 use Rattle.std.specs.Prelude.{slice_get}
 use Rattle.yr_rows.specs.Moves.{AreWellformedMoves}
 use Rattle.yr_rows.specs.declared.moves.MoveRow.{MoveRow}
 use Rattle.yr_ends.specs.declared.carried.Carried.{Carried}
-use Rattle.yr_ends.specs.Carried.{Shown, Holds, Adds, AreBelow, IsNoWorse}
+use Rattle.yr_ends.specs.Carried.{Shown, Holds, Adds, AreBelow}
 use Rattle.yr_ends.specs.Arcs.{Joins, Stays}
-use Rattle.yr_ends.specs.Spreads.{Grows, HasFloor, HoldsAs, Spreads, AreClosed, CameFrom, bound}
+use Rattle.yr_ends.specs.Spreads.{Grows, HasFloor, Spreads, AreClosed, CameFrom, bound}
 use Rattle.yr_ends.proofs.ListLemmas.{get_within}
-use Rattle.yr_ends.proofs.HoldLemmas.{nothing_held, adds_has, adds_only, grows_has, grows_cases, grows_old, grows_get, grows_length, no_worse_is, no_worse_trans}
+use Rattle.yr_ends.proofs.HoldLemmas.{nothing_held, adds_only, grows_has, grows_cases, grows_get, grows_length, no_worse_is, no_worse_trans}
 use Rattle.yr_ends.proofs.SpreadLemmas.{carried_below}
 use Rattle.yr_spans.specs.StartWalks.{AreAlike}
 

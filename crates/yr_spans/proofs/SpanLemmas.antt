@@ -1,12 +1,12 @@
 -- Spans by the starts of one side and the ends of the other.
-use Rattle.std.proofs.Common.{◌≡◌, ℕ, zero, suc, ◌+◌, ◌-◌, ◌<◌, ◌≤◌, ◌⊎◌, ◌==◌, inl, inr, Bool, true, false, IsTrue, List, [], ◌∷◌, length, Option, Some, None, refl, sym, ap, ◌∙◌, subst, arith, true≢false}
+use Rattle.std.proofs.Common.{◌≡◌, ℕ, zero, suc, ◌+◌, ◌<◌, ◌≤◌, ◌⊎◌, ◌==◌, inl, inr, Bool, true, false, IsTrue, List, ◌∷◌, Option, Some, None, refl, sym, ap, ◌∙◌, subst, arith, true≢false}
 use Rattle.std.specs.Prelude.{slice_get, if◌then◌else◌}
 use Rattle.std.proofs.lemmas.Bool.Decides.{nat_tests}
 use Rattle.yr_base.specs.Places.{has_left_border}
 use Rattle.yr_moves.specs.Walks.{IsBest, IsEnd}
 use Rattle.yr_ends.specs.Carried.{IsNoWorse}
 use Rattle.yr_ends.specs.EndWalks as ends
-use Rattle.yr_ends.proofs.HoldLemmas.{no_worse_same, no_worse_trans}
+use Rattle.yr_ends.proofs.HoldLemmas.{no_worse_trans}
 use Rattle.yr_spans.specs.StartWalks as starts
 use Rattle.yr_spans.specs.StartWalks.{Told, Tells, IsBestOf, StartsAt, StartsBelow, StartsHere}
 use Rattle.yr_spans.specs.Spans.{Walk, IsEndOf, IsSpan, IsAmong, IsCounted, AreTold}

@@ -1,17 +1,16 @@
 -- The starts from one place and those from the place above it.
-use Rattle.std.proofs.Common.{◌≡◌, ℕ, zero, suc, ◌+◌, ◌-◌, ◌<◌, ◌≤◌, ◌⊎◌, inl, inr, Bool, true, false, List, [], ◌∷◌, length, Option, Some, None, refl, sym, ap, ◌∙◌, subst, arith}
+use Rattle.std.proofs.Common.{◌≡◌, ℕ, zero, suc, ◌+◌, ◌<◌, ◌≤◌, ◌⊎◌, inl, inr, false, List, [], ◌∷◌, length, Option, Some, None, refl, sym, ap, ◌∙◌, subst, arith}
 use Rattle.std.specs.Prelude.{slice_get, slice_index, ◌↔◌}
 use Rattle.std.proofs.lemmas.Option.{slice_get-get_or}
 use Rattle.std.proofs.lemmas.Bool.{cases_lt}
 use Rattle.yr_rows.specs.Moves.{move_at, AreWellformedMoves}
-use Rattle.yr_rows.specs.declared.moves.MoveRow.{MoveRow}
 use Rattle.yr_rows.specs.declared.moves.Move.TheVariants.{Accept}
 use Rattle.yr_ends.specs.declared.carried.Carried.{Carried}
 use Rattle.yr_ends.specs.Carried.{Holds, IsNoWorse}
 use Rattle.yr_ends.specs.Arcs.{Joins, Stays}
 use Rattle.yr_ends.specs.Spreads.{HoldsAs, AreClosed}
-use Rattle.yr_ends.proofs.ListLemmas.{get_within, same_or_not}
-use Rattle.yr_ends.proofs.HoldLemmas.{nothing_held, no_worse_same, no_worse_trans, no_worse_is}
+use Rattle.yr_ends.proofs.ListLemmas.{get_within}
+use Rattle.yr_ends.proofs.HoldLemmas.{nothing_held, no_worse_same, no_worse_trans}
 use Rattle.yr_ends.proofs.JoinLemmas.{move_within}
 use Rattle.yr_spans.specs.StartWalks.{Walk, Told, Tells, Kept, RunsDown, Reaches, StartsBelow, StartsHere, StartsAt, IsBestOf, AreCarried, AreOwn, Merges, IsBetter, IsMidway, IsReadyFor, only_with}
 use Rattle.yr_spans.proofs.RunLemmas as runs

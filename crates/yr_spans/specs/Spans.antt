@@ -1,5 +1,5 @@
 -- The spans of one split, whose sides are programs: nothing is the program that accepts at once.
-use Rattle.std.specs.Prelude.{◌≡◌, ℕ, ◌+◌, ◌<◌, ◌≤◌, Bool, IsTrue, List, Option, Some, slice_get}
+use Rattle.std.specs.Prelude.{◌≡◌, ℕ, ◌+◌, ◌<◌, ◌≤◌, IsTrue, List, Some, slice_get}
 use Rattle.yr_base.specs.Places.{has_left_border}
 use Rattle.yr_rows.specs.Accepts.{AcceptsBackwards}
 use Rattle.yr_moves.specs.Walks.{IsBest, IsEnd}

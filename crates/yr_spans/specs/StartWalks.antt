@@ -1,5 +1,5 @@
 -- The walk over the starts of spans: ends are told at places, and brought down to the places from which spans begin.
-use Rattle.std.specs.Prelude.{◌≡◌, ℕ, ◌+◌, ◌<◌, ◌≤◌, ◌⊎◌, ◌^◌, Bool, false, List, ◌∷◌, length, Option, Some, None, slice_get}
+use Rattle.std.specs.Prelude.{◌≡◌, ℕ, ◌+◌, ◌<◌, ◌≤◌, ◌⊎◌, Bool, false, List, length, Option, Some, None, slice_get}
 use Rattle.std.specs.Option.{MatchOption}
 use Rattle.yr_rows.specs.Moves.{move_at, AreWellformedMoves}
 use Rattle.yr_rows.specs.Accepts.{ReadsBackwards, Run}

@@ -1,4 +1,4 @@
-use Rattle.std.proofs.Common.{◌≡◌, ◌+◌, ◌<◌, ℕ, Bool, false, length, sym, subst, arith}
+use Rattle.std.proofs.Common.{ℕ, Bool, false, length, subst, arith}
 use Rattle.yr_moves.specs.Programs.{moves_of, sets_of}
 use Rattle.yr_ends.specs.Carried.{AreBelow}
 use Rattle.yr_ends.specs.Spreads.{Carries, bound}

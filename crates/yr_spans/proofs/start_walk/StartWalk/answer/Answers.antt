@@ -1,9 +1,7 @@
-use Rattle.std.proofs.Common.{◌≡◌, ◌<◌, ℕ, Option, Some, length, sym, ap, ◌∙◌, subst, arith}
+use Rattle.std.proofs.Common.{◌≡◌, ℕ, Option, Some, length, ap, ◌∙◌, subst, arith}
 use Rattle.std.specs.Prelude.{◌↔◌}
-use Rattle.yr_moves.specs.Programs.{moves_of, sets_of}
 use Rattle.yr_ends.specs.Carried.{Holds}
-use Rattle.yr_spans.specs.declared.start_walk.StartWalk.TheInside.{Inside}
-use Rattle.yr_spans.specs.StartWalks.{Walk, IsBetter, only_with}
+use Rattle.yr_spans.specs.StartWalks.{Walk, IsBetter}
 use Rattle.yr_spans.proofs.start_walk.StartWalk.answer.Goals as goal
 
 pub overflow_cast-accept : goal.overflow_cast-accept

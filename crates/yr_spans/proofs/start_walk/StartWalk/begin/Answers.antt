@@ -1,4 +1,4 @@
-use Rattle.std.proofs.Common.{◌≡◌, ℕ, Option, None, Some, sym, ap, ◌∙◌, subst}
+use Rattle.std.proofs.Common.{ℕ, Option, sym, subst}
 use Rattle.yr_ends.proofs.HoldLemmas.{nothing_held}
 use Rattle.yr_spans.specs.StartWalks.{AreOwn}
 use Rattle.yr_spans.proofs.StartLemmas.{nothing_own}

@@ -1,8 +1,8 @@
-use Rattle.std.proofs.Common.{◌≡◌, ◌+◌, ◌-◌, ◌<◌, ◌≤◌, ◌∷◌, ℕ, Option, None, Some, List, [], length, refl, sym, ap, ◌∙◌, subst, arith}
+use Rattle.std.proofs.Common.{◌≡◌, ◌+◌, ◌-◌, ◌≤◌, ◌∷◌, ℕ, None, Some, [], length, sym, ap, subst, arith}
 use Rattle.std.specs.Prelude.{slice_get, ◌↔◌}
 use Rattle.yr_rows.specs.Moves.{AreWellformedMoves}
 use Rattle.yr_ends.specs.Carried.{Shown, Holds, AreBelow, Falls}
-use Rattle.yr_spans.specs.StartWalks.{Walk, Told, Kept, AreAlike, AreCarried, AreOwn, AreShut, HasRoom, IsBestOf, IsBetter, IsMidway, IsReadyFor, Merges, StartsAt, only_with}
+use Rattle.yr_spans.specs.StartWalks.{Walk, Kept, AreOwn, AreShut, IsBestOf, IsBetter, IsMidway, IsReadyFor, Merges, StartsAt, only_with}
 use Rattle.yr_spans.proofs.StartLemmas.{best_start, carried_next, midway_next}
 use Rattle.yr_spans.proofs.start_walk.StartWalk.fall.Goals as goal
 use Rattle.yr_spans.proofs.start_walk.StartWalk.fall.Goals.{then-len-lt2, else-len-lt2}

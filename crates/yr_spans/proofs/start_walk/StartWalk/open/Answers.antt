@@ -1,8 +1,7 @@
-use Rattle.std.proofs.Common.{◌≡◌, ◌+◌, ◌<◌, ℕ, Bool, false, List, None, Some, length, refl, sym, ap, ◌∙◌, subst, arith}
+use Rattle.std.proofs.Common.{◌+◌, Bool, false, None, Some, length, sym, subst, arith}
 use Rattle.yr_rows.specs.Moves.{AreWellformedMoves}
 use Rattle.yr_moves.specs.Programs.{moves_of, sets_of}
-use Rattle.yr_ends.specs.declared.carried.Carried.{Carried}
-use Rattle.yr_ends.specs.Carried.{Adds, AreBelow}
+use Rattle.yr_ends.specs.Carried.{AreBelow}
 use Rattle.yr_ends.specs.Spreads.{AreClosed, CameFrom, Spreads, bound}
 use Rattle.yr_ends.proofs.SpreadLemmas.{stays_join}
 use Rattle.yr_spans.specs.declared.start_walk.StartWalk.TheInside.{Inside}
