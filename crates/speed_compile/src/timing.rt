@@ -1,0 +1,61 @@
+//! Rules, compiled and timed.
+
+ghost use Rattle.yr_rules.specs.Rules.{rules_of};
+ghost use Rattle.yr_compiling.specs.Built.{HaveIds};
+
+use crate::making::make;
+use crate::texts::Form;
+use anyhow::bail;
+use std::alloc::Global;
+use std::time::CpuClock;
+use yr_base::NoMemory;
+use yr_compiling::compile;
+use yr_image::encode;
+use yr_rules::CheckedRules;
+
+/// How often the rules are compiled; the fastest run counts.
+const RUNS: usize = 3;
+
+// The bytes of the image, if there is memory.
+fn image_of(alloc: Global, rules: &CheckedRules) -> Result<Vec<u8>, NoMemory>
+    requires { HaveIds (rules_of rules.now) }
+{
+    let tables = compile(alloc, rules)?;
+    encode(alloc, &tables)
+}
+
+fn seconds(rt: HostRuntime) -> anyhow::Result<f64> {
+    Ok(rt.thread_cpu_time()?.as_secs_f64())
+}
+
+/// Says how large the image of so many rules is.
+pub fn say(rt: HostRuntime, name: &str, form: Form, count: u32) -> anyhow::Result<()> {
+    let Ok(rules) = make(rt.alloc(), form, count) else {
+        bail!("no memory");
+    };
+    let Ok(image) = image_of(rt.alloc(), &rules) else {
+        bail!("no memory");
+    };
+    let length = image.len();
+    println!(rt; "{count} {name}: {length} bytes")?;
+    Ok(())
+}
+
+/// Says how large the image of so many rules is, and how long it takes to make it.
+pub fn time(rt: HostRuntime, name: &str, form: Form, count: u32) -> anyhow::Result<()> {
+    let Ok(rules) = make(rt.alloc(), form, count) else {
+        bail!("no memory");
+    };
+    let mut least = f64::MAX;
+    let mut length = 0;
+    for _ in 0..RUNS {
+        let start = seconds(rt)?;
+        let Ok(image) = image_of(rt.alloc(), &rules) else {
+            bail!("no memory");
+        };
+        least = least.min(seconds(rt)? - start);
+        length = image.len();
+    }
+    println!(rt; "{count} {name}: {length} bytes in {least:.3} s")?;
+    Ok(())
+}
