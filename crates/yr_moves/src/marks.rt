@@ -13,6 +13,8 @@ pub struct MoveSet {
     list: Vec<u32>,
     len: usize,
     seen: Vec<bool>,
+    /// How many members were cleared, modulo 2^64.
+    cleared: u64,
 }
 
 impl Model for MoveSet {
@@ -35,6 +37,7 @@ impl MoveSet {
             list: vec![in alloc; 0; room]?,
             len: 0,
             seen: vec![in alloc; false; room]?,
+            cleared: 0,
         })
     }
 
@@ -81,6 +84,7 @@ impl MoveSet {
             let m = self.list[k] as usize;
             self.seen[m] = false;
         }
+        self.cleared = self.cleared.wrapping_add(self.len as u64);
         self.len = 0;
     }
 }
@@ -111,5 +115,11 @@ impl Marks {
         let now = MoveSet::new(alloc, count as usize)?;
         let onwards = MoveSet::new(alloc, count as usize)?;
         Ok(Marks { now, onwards })
+    }
+
+    /// How many moves the searches with these marks looked at so far, modulo 2^64. It is told without a promise, for who chooses
+    /// between two ways to one answer.
+    pub fn work(&self) -> u64 {
+        self.now.cleared.wrapping_add(self.onwards.cleared)
     }
 }

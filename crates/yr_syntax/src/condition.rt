@@ -5,7 +5,6 @@ use crate::string::RegexText;
 
 /// A condition. Names have no sign, and are empty where the sign stands alone.
 #[cycle(condition)]
-#[derive(Drop)]
 pub enum Cond {
     Number(i64),
     Text(Vec<u8>),
@@ -66,6 +65,44 @@ pub enum Cond {
         over: Over,
         body: Box<Cond>,
     },
+}
+
+/// A run of prefixes is taken apart by the loop, so that what recurses is bounded by the height.
+impl Drop for Cond {
+    #[cycle(condition)]
+    fn drop(mut self) {
+        loop {
+            match self {
+                Cond::Prefix { op: _, inner } => self = Box::into_inner(inner),
+                Cond::Number(_) | Cond::Flag(_) | Cond::FileSize => return,
+                Cond::Text(_) => return,
+                Cond::Path(_) => return,
+                Cond::Found { name: _, place: _ } => return,
+                Cond::Count { name: _, range: _ } => return,
+                Cond::Offset { name: _, index: _ } => return,
+                Cond::Length { name: _, index: _ } => return,
+                Cond::Read { reader: _, at: _ } => return,
+                Cond::Chain { first: _, rest: _ } => return,
+                Cond::Matches { text: _, regex: _ } => return,
+                Cond::Of {
+                    quant: _,
+                    set: _,
+                    place: _,
+                } => return,
+                Cond::ForOf {
+                    quant: _,
+                    set: _,
+                    body: _,
+                } => return,
+                Cond::ForIn {
+                    quant: _,
+                    name: _,
+                    over: _,
+                    body: _,
+                } => return,
+            }
+        }
+    }
 }
 
 /// A part of a path.
