@@ -11,8 +11,9 @@ use std::env;
 use timing::time;
 
 /// The command lines that are timed, with how many rules there are and how many bytes the target has.
-const CASES: [(&str, usize, usize); 4] = [
+const CASES: [(&str, usize, usize); 5] = [
     ("scan r.yar t.bin", 1_000, 100_000_000),
+    ("scan -C r.img t.bin", 1_000, 100_000_000),
     ("scan r.yar t.bin", 10_000, 0),
     ("scan -C r.img t.bin", 10_000, 0),
     ("scan -C r.img t.bin", 1, 0),

@@ -43,13 +43,24 @@ fn byte(place: usize, drawn: u64) -> u8 {
     }
 }
 
+/// The first bytes of the file: those of a program, and a text that the rule of number 1 looks for.
+const BEGIN: &[u8] = b"MZ /tmp/.sample_1/run ";
+
+// A byte of the file: of its beginning, or drawn.
+fn byte_of(place: usize, drawn: u64) -> u8 {
+    match BEGIN.get(place) {
+        Some(byte) => *byte,
+        None => byte(place, drawn),
+    }
+}
+
 /// A file of so many bytes.
 pub fn target(alloc: Global, size: usize) -> Result<Vec<u8>, AllocError> {
     let mut file = Vec::with_capacity(alloc, size)?;
     let mut drawn = 1;
     for place in 0..size {
         drawn = next(drawn);
-        file.push(byte(place, drawn))?;
+        file.push(byte_of(place, drawn))?;
     }
     Ok(file)
 }
