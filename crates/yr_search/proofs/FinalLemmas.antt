@@ -18,12 +18,12 @@ use Rattle.yr_machine.specs.ImageMatches.{IsCounted, AreImageMatches, is_greates
 use Rattle.yr_machine.specs.Wellformed.{IsWellformed}
 use Rattle.yr_machine.specs.Budget.{search_budget, output_cost}
 use Rattle.yr_matches.specs.Found.{Found, IsReadable, items_of}
-use Rattle.yr_search.specs.Gathering.{IsSettled}
+use Rattle.yr_hits.specs.Gathering.{IsSettled}
 use Rattle.yr_search.specs.Uppers.{own, upper, costs}
 use Rattle.yr_search.specs.Walked.{AreFronts, front_cost, total, repeated, root_fronts}
 use Rattle.yr_search.specs.FoundIn.{IsFoundIn, AreTaken, AreSettled, AreAllShort}
-use Rattle.yr_search.proofs.HitLemmas.{there}
-use Rattle.yr_search.proofs.SideLemmas.{side_up}
+use Rattle.yr_hits.proofs.HitLemmas.{there}
+use Rattle.yr_hits.proofs.SideLemmas.{side_up}
 use Rattle.yr_search.proofs.TakeLemmas.{items_get}
 use Rattle.yr_search.proofs.NodeLemmas.{outputs_are, links_fall}
 use Rattle.yr_search.proofs.GatherLemmas.{Holds, CountedBy, IsGathered, InFronts, gather_fronts, gather_empty, settled_is_list}

@@ -8,10 +8,10 @@ use Rattle.yr_image.specs.declared.rows.SplitRow.{SplitRow}
 use Rattle.yr_image.specs.declared.rows.StringRow.{StringRow}
 use Rattle.yr_image.specs.Image.{Image}
 use Rattle.yr_machine.specs.ImageMatches.{is_greatest}
-use Rattle.yr_search.specs.Gathering.{DoesFor, Grows, IsSettled}
-use Rattle.yr_search.specs.Spans.{IsSpan}
+use Rattle.yr_hits.specs.Gathering.{DoesFor, Grows, IsSettled}
+use Rattle.yr_hits.specs.Spans.{IsSpan}
 use Rattle.yr_search.specs.Taking.{Takes, TakesAll, TakesFronts}
-use Rattle.yr_search.proofs.SettleLemmas.{contains_first, contains_later, contains_none, contains_cases}
+use Rattle.yr_hits.proofs.MemberLemmas.{contains_first, contains_later, contains_none, contains_cases}
 
 -- an element of a list in which one was replaced
 pub set_cases : {X : Type 0} (xs : List X) (k : ℕ) (v : X) (j : ℕ) (y : X) → slice_get (set xs k v) j ≡ Some y

@@ -15,11 +15,11 @@ use Rattle.yr_image.specs.Sections.{rows_of, bytes_of}
 use Rattle.yr_image.specs.Views.{shown_bytes, image_of}
 use Rattle.yr_machine.specs.Wellformed.{IsWellformed}
 use Rattle.yr_verifier.proofs.CallerLemmas.{has_sections}
-use Rattle.yr_search.specs.declared.hit.Scene.{Scene}
+use Rattle.yr_search.specs.declared.scene.Scene.{Scene}
 use Rattle.yr_search.specs.Taking.{IsGoodScene, TakesAll, TakesFronts}
 use Rattle.yr_search.specs.Uppers.{own, upper}
 use Rattle.yr_search.specs.Walked.{repeated}
-use Rattle.yr_search.proofs.SectionLemmas.{section_bytes}
+use Rattle.yr_hits.proofs.SectionLemmas.{section_bytes}
 use Rattle.yr_search.proofs.NodeLemmas.{outputs_cost, costs_count}
 use Rattle.yr_search.proofs.WalkLemmas.{rows_are_wellformed}
 

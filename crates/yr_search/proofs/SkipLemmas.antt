@@ -14,12 +14,12 @@ use Rattle.yr_image.specs.Image.{Image}
 use Rattle.yr_image.specs.Reading.{image_in}
 use Rattle.yr_image.specs.Views.{image_of}
 use Rattle.yr_machine.specs.Wellformed.{IsWellformed}
-use Rattle.yr_search.specs.declared.hit.Scene.{Scene}
+use Rattle.yr_search.specs.declared.scene.Scene.{Scene}
 use Rattle.yr_search.specs.Taking.{IsGoodScene, TakesAll}
 use Rattle.yr_search.specs.Uppers.{own, upper, depth_of, LeadsFrom0}
 use Rattle.yr_search.specs.Walked.{Stands, Walked, IsUpperAfter}
 use Rattle.yr_search.specs.Skips.{IsPassed, IsPairTable}
-use Rattle.yr_search.proofs.HitLemmas.{there}
+use Rattle.yr_hits.proofs.HitLemmas.{there}
 use Rattle.yr_search.proofs.NodeLemmas.{node_is, depth_is, link_is, link_falls, upper_at, own_length}
 use Rattle.yr_search.proofs.WalkLemmas.{stands_step, stands_at, edge_deeper, root_depth, walked_next}
 use Rattle.yr_search.proofs.SceneLemmas.{some_nodes}

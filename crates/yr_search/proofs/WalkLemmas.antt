@@ -16,8 +16,8 @@ use Rattle.yr_machine.specs.Wellformed.{IsWellformed}
 use Rattle.yr_search.specs.Taking.{TakesAll}
 use Rattle.yr_search.specs.Uppers.{upper, depth_of, LeadsFrom0}
 use Rattle.yr_search.specs.Walked.{IsUpperAfter, AreFronts, Stands, total, Walked}
-use Rattle.yr_search.proofs.SideLemmas.{and_first, and_second}
-use Rattle.yr_search.proofs.HitLemmas.{there}
+use Rattle.yr_hits.proofs.SideLemmas.{and_first, and_second}
+use Rattle.yr_hits.proofs.HitLemmas.{there}
 use Rattle.yr_search.proofs.NodeLemmas.{node_is, depth_is, link_is, link_falls}
 use Rattle.yr_search.proofs.TakeLemmas.{fronts_more}
 

@@ -8,9 +8,9 @@ use Rattle.yr_image.specs.Image.{Image}
 use Rattle.yr_image.specs.Views.{shown_bytes, image_of}
 use Rattle.yr_machine.specs.Wellformed.{IsWellformed}
 use Rattle.yr_machine.specs.ImageMatches.{is_greatest}
-use Rattle.yr_search.specs.declared.hit.Scene.{Scene}
-use Rattle.yr_search.specs.Gathering.{Grows}
-use Rattle.yr_search.specs.Spans.{IsSpan}
+use Rattle.yr_search.specs.declared.scene.Scene.{Scene}
+use Rattle.yr_hits.specs.Gathering.{Grows}
+use Rattle.yr_hits.specs.Spans.{IsSpan}
 
 -- a wellformed image, and a file that is not too long
 pub record IsGoodScene (scene : Scene) : Type 0 where
@@ -19,10 +19,6 @@ pub record IsGoodScene (scene : Scene) : Type 0 where
   pub nodes : nodes_of scene.automaton.nodes.now ≡ (image_of scene.view.now).nodes
   pub edges : edges_of scene.automaton.edges.now ≡ (image_of scene.view.now).edges
   pub outputs : outputs_of scene.automaton.outputs.now ≡ (image_of scene.view.now).outputs
-
--- the atom of a split is no longer than this
-abbrev pub HasAtomWithin : Image → (at split : ℕ) → Type 0
-HasAtomWithin image at split = (row : SplitRow) → slice_get image.splits split ≡ Some row → row.atom_length ≤ at
 
 -- a hit of a split after e bytes makes the list of the split's string grow by the spans of the hit
 pub record Takes (image : Image) (file : List ℕ) (e split : ℕ) (old new : List (List Match)) : Type 0 where

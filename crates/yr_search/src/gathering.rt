@@ -4,13 +4,13 @@ ghost use Rattle.std.specs.Prelude.{◌≡◌, ◌+◌, ◌*◌, ◌≤◌, [], 
 ghost use Rattle.yr_image.specs.Views.{image_of};
 ghost use Rattle.yr_machine.specs.Budget.{search_budget};
 ghost use Rattle.yr_matches.specs.Found.{items_of};
-ghost use Rattle.yr_search.specs.Programs.{HasRoom};
+ghost use Rattle.yr_hits.specs.Programs.{HasRoom};
 ghost use Rattle.yr_search.specs.Taking.{IsGoodScene};
 ghost use Rattle.yr_search.specs.Skips.{AreSkips};
 ghost use Rattle.yr_search.specs.Walked.{front_cost};
 ghost use Rattle.yr_search.specs.FoundIn.{AreTaken, AreSettled, AreAllShort};
 
-use crate::hit::Scene;
+use crate::scene::Scene;
 use crate::settling::settle;
 use crate::skips::Skips;
 use crate::walking::{take_root, walk};

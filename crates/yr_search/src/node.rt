@@ -4,11 +4,11 @@ ghost use Rattle.std.specs.Prelude.{◌≡◌, ◌+◌, ◌<◌, ◌≤◌, ◌^
 ghost use Rattle.yr_image.specs.Views.{image_of};
 ghost use Rattle.yr_machine.specs.Budget.{output_cost};
 ghost use Rattle.yr_matches.specs.Found.{items_of};
-ghost use Rattle.yr_search.specs.Programs.{HasRoom};
+ghost use Rattle.yr_hits.specs.Programs.{HasRoom};
 ghost use Rattle.yr_search.specs.Taking.{IsGoodScene, TakesAll};
 ghost use Rattle.yr_search.specs.Uppers.{own, upper, depth_of, costs};
 
-use crate::hit::Scene;
+use crate::scene::Scene;
 use crate::taking::take_hit;
 use std::sync::ledger::Ledger;
 use yr_base::{NoMemory, Steps};

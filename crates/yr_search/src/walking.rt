@@ -4,14 +4,14 @@ ghost use Rattle.std.specs.Prelude.{◌≡◌, ℕ, ◌+◌, ◌*◌, ◌^◌, �
 ghost use Rattle.yr_image.specs.Views.{image_of};
 ghost use Rattle.yr_machine.specs.Budget.{output_cost};
 ghost use Rattle.yr_matches.specs.Found.{items_of};
-ghost use Rattle.yr_search.specs.Programs.{HasRoom};
+ghost use Rattle.yr_hits.specs.Programs.{HasRoom};
 ghost use Rattle.yr_search.specs.Taking.{IsGoodScene, TakesAll, TakesFronts};
 ghost use Rattle.yr_search.specs.Uppers.{own, upper, depth_of, costs};
 ghost use Rattle.yr_search.specs.Skips.{AreSkips};
 ghost use Rattle.yr_search.specs.Walked.{Walked, root_fronts, front_cost};
 
-use crate::hit::Scene;
 use crate::node::{take_own, take_upper};
+use crate::scene::Scene;
 use crate::skipping::next_live;
 use crate::skips::Skips;
 use crate::stepping::step;

@@ -6,7 +6,7 @@ use Rattle.yr_matches.specs.Found.{items_of}
 use Rattle.yr_search.specs.Taking.{TakesAll}
 use Rattle.yr_search.specs.Uppers.{own, costs}
 use Rattle.yr_search.proofs.NodeLemmas.{own_next, own_done, own_length, own_atom, outputs_inside}
-use Rattle.yr_search.proofs.TakeLemmas.{output_is_split}
+use Rattle.yr_hits.proofs.SplitLemmas.{output_is_split}
 use Rattle.yr_search.proofs.node.take_own.Goals as goal
 
 pub node_at-row-requires : goal.node_at-row-requires

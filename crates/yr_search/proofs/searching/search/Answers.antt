@@ -4,9 +4,9 @@ use Rattle.yr_image.specs.Views.{shown_bytes, image_of}
 use Rattle.yr_machine.specs.Budget.{search_budget}
 use Rattle.yr_verifier.specs.Verified.{bytes_of}
 use Rattle.yr_verifier.proofs.CallerLemmas.{has_sections}
-use Rattle.yr_search.specs.Programs.{HasRoom}
+use Rattle.yr_hits.specs.Programs.{HasRoom}
 use Rattle.yr_search.specs.FoundIn.{IsFoundIn}
-use Rattle.yr_search.proofs.SectionLemmas.{string_rows}
+use Rattle.yr_hits.proofs.SectionLemmas.{string_rows}
 use Rattle.yr_search.proofs.FinalLemmas.{all_short, all_readable, found_in, within_budget}
 use Rattle.yr_search.proofs.searching.search.Goals as goal
 

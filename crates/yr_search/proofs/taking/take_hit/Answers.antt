@@ -1,10 +1,11 @@
 use Rattle.std.proofs.Common.{length, refl, sym, ap, subst, arith}
 use Rattle.std.proofs.lemmas.Option.{slice_get_read}
 use Rattle.yr_image.specs.Views.{shown_bytes, image_of}
-use Rattle.yr_search.specs.Programs.{HasRoom}
-use Rattle.yr_search.proofs.SideLemmas.{good_fields}
-use Rattle.yr_search.proofs.GrowLemmas.{on_ok}
-use Rattle.yr_search.proofs.TakeLemmas.{split_is_good, takes_of}
+use Rattle.yr_hits.specs.Programs.{HasRoom}
+use Rattle.yr_hits.proofs.SideLemmas.{good_fields}
+use Rattle.yr_hits.proofs.GrowLemmas.{on_ok}
+use Rattle.yr_hits.proofs.SplitLemmas.{split_is_good}
+use Rattle.yr_search.proofs.TakeLemmas.{takes_of}
 use Rattle.yr_search.proofs.taking.take_hit.Goals as goal
 
 pub add_matches-requires-clause-room : goal.add_matches-requires-clause-room
