@@ -1,3 +1,4 @@
+pub mod StateLemmas
 pub mod SettleLemmas
 pub mod TakeLemmas
 pub mod NodeLemmas

@@ -1,4 +1,5 @@
 pub mod Scratches
+pub mod State
 pub mod Taking
 pub mod Uppers
 pub mod Walked

@@ -1,8 +1,10 @@
 //! The search of a file for the strings of an image.
 #![tactic(auto)]
 
+mod gathered;
 mod gathering;
 pub mod laws;
+mod leaving;
 mod node;
 mod scene;
 mod scratch;
