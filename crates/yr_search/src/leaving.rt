@@ -42,5 +42,7 @@ pub(crate) fn take_left<L: Ledger>(
     }
     let row = scene.view.split(split);
     let list = &mut lists[row.string as usize];
-    sweep(alloc, scene.view, scene.file, split, hits, marks, list, steps)
+    sweep(
+        alloc, scene.view, scene.file, split, hits, marks, list, steps,
+    )
 }

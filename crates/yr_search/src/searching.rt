@@ -41,13 +41,7 @@ pub fn search<L: Ledger>(
         &mut gathered,
         steps,
     )?;
-    take_later(
-        alloc,
-        &scene,
-        &mut scratch.marks,
-        &mut gathered,
-        steps,
-    )?;
+    take_later(alloc, &scene, &mut scratch.marks, &mut gathered, steps)?;
     settle_all(&scene, &mut gathered.lists);
     Ok(Matches::new(gathered.lists, hits))
 }

@@ -1,4 +1,4 @@
-use Rattle.std.proofs.Common.{◌≡◌, ℕ, List, ◌++◌, ◌∷◌, [], length, set, refl, sym, ap, ◌∙◌, arith}
+use Rattle.std.proofs.Common.{◌≡◌, ℕ, List, ◌++◌, ◌∷◌, [], length, set, Result, Ok, Err, OnErr, refl, sym, ap, ◌∙◌, arith}
 use Rattle.std.proofs.lemmas.Option.{slice_get_read}
 use Rattle.yr_matches.specs.Found.{items_of}
 use Rattle.yr_search.specs.State.{State, hits_in}
@@ -25,4 +25,8 @@ returns-in_err-push-clause-kept c =
     let same = hits_set later c.args.split c.push.new.self ∙ ap (λ l. set (hits_in later) c.args.split l) c.in_err-push.ensures.items
     ∙ set_same (hits_in later) c.args.split v.items (hits_get later c.args.split v at) in
     let with : List (List ℕ) → State = λ l. record { lists = items_of c.args.gathered.now.lists.items; later = l } in
-    ap with same
+    on_err c.from_residual.result (ap with same)
+  where
+    on_err : {T E P : Type 0} → (r : Result T E) → P → OnErr r P
+    on_err (Ok v) h = tt
+    on_err (Err e) h = h
