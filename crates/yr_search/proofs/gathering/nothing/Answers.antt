@@ -1,5 +1,5 @@
-use Rattle.std.proofs.Common.{◌≡◌, length, Contains, sym, ◌∙◌, subst, arith}
-use Rattle.yr_image.specs.Views.{shown_bytes, image_of}
+use Rattle.std.proofs.Common.{Contains, sym, ◌∙◌, subst, arith}
+use Rattle.yr_image.specs.Views.{shown_bytes}
 use Rattle.yr_verifier.proofs.CallerLemmas.{has_sections}
 use Rattle.yr_hits.proofs.SectionLemmas.{string_rows}
 use Rattle.yr_hits.proofs.MemberLemmas.{contains_none}
