@@ -7,7 +7,7 @@ use Rattle.yr_rows.proofs.RowLemmas.{length-rows_in}
 use Rattle.yr_image.specs.Reading.{image_in, rule_row, note_row}
 use Rattle.yr_image.specs.Sections.{HasSections, version_in, rule_width, rows_of, bytes_of}
 use Rattle.yr_machine.specs.ImageRun.{FitExternals}
-use Rattle.yr_search.proofs.SectionLemmas.{section_bytes}
+use Rattle.yr_hits.proofs.SectionLemmas.{section_bytes}
 
 -- rows of either width
 by_width : (b : Bool) (rows count size : ℕ) → size ≡ rows * (if b then 32 else 40) → count ≡ size / (if b then 32 else 40) → count ≡ rows

@@ -16,7 +16,7 @@ use Rattle.yr_machine.specs.ImageRun.{value_of}
 use Rattle.yr_machine.specs.Roles.{kind_of_note}
 use Rattle.yr_machine.specs.Rows.{is_good_external, is_good_value}
 use Rattle.yr_machine.specs.Wellformed.{IsWellformed}
-use Rattle.yr_search.proofs.SectionLemmas.{section_bytes}
+use Rattle.yr_hits.proofs.SectionLemmas.{section_bytes}
 use Rattle.yr_outcome.specs.Externals.{same_kind}
 
 pub external_rows : (bytes : List ℕ) → HasSections bytes → length (image_in bytes).externals ≡ rows_of bytes 2

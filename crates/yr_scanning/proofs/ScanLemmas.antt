@@ -20,7 +20,7 @@ use Rattle.yr_modules.proofs.FitLemmas.{modules-fit}
 use Rattle.yr_machine.specs.Operations.{Context}
 use Rattle.yr_matches.specs.Found.{Found}
 use Rattle.yr_search.specs.FoundIn.{IsFoundIn}
-use Rattle.yr_search.proofs.SectionLemmas.{section_bytes}
+use Rattle.yr_hits.proofs.SectionLemmas.{section_bytes}
 use Rattle.yr_vm.specs.Evaluation.{IsEvaluation, IsContextOf}
 use Rattle.yr_scanning.specs.Scanned.{IsScanWith}
 

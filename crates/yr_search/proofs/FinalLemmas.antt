@@ -18,15 +18,18 @@ use Rattle.yr_machine.specs.ImageMatches.{IsCounted, AreImageMatches, is_greates
 use Rattle.yr_machine.specs.Wellformed.{IsWellformed}
 use Rattle.yr_machine.specs.Budget.{search_budget, output_cost}
 use Rattle.yr_matches.specs.Found.{Found, IsReadable, items_of}
-use Rattle.yr_search.specs.Gathering.{IsSettled}
+use Rattle.yr_hits.specs.Gathering.{IsSettled}
 use Rattle.yr_search.specs.Uppers.{own, upper, costs}
 use Rattle.yr_search.specs.Walked.{AreFronts, front_cost, total, repeated, root_fronts}
+use Rattle.yr_search.specs.State.{State, IsEmpty, cost_later, owed}
+use Rattle.yr_search.specs.Taking.{TakesLater}
 use Rattle.yr_search.specs.FoundIn.{IsFoundIn, AreTaken, AreSettled, AreAllShort}
-use Rattle.yr_search.proofs.HitLemmas.{there}
-use Rattle.yr_search.proofs.SideLemmas.{side_up}
-use Rattle.yr_search.proofs.TakeLemmas.{items_get}
+use Rattle.yr_hits.proofs.HitLemmas.{there}
+use Rattle.yr_hits.proofs.SideLemmas.{side_up}
+use Rattle.yr_search.proofs.StateLemmas.{owed_none}
+use Rattle.yr_search.proofs.TakeLemmas.{items_get, items_length}
 use Rattle.yr_search.proofs.NodeLemmas.{outputs_are, links_fall}
-use Rattle.yr_search.proofs.GatherLemmas.{Holds, CountedBy, IsGathered, InFronts, gather_fronts, gather_empty, settled_is_list}
+use Rattle.yr_search.proofs.GatherLemmas.{Holds, CountedBy, IsGathered, InFronts, gather_fronts, gather_empty, gather_rest, holds_all, settled_is_list}
 
 -- ---- fronts by their places
 
@@ -185,13 +188,9 @@ items_from [] k list e = cc
 items_from (w ∷ ws) zero list e = (w, refl, cc)
 items_from (w ∷ ws) (suc k) list e = items_from ws k list e
 
-pub items_length : (ws : List (Vec Match Global)) → length (items_of ws) ≡ length ws
-items_length [] = refl
-items_length (w ∷ ws) = ap suc (items_length ws)
-
-module _ (bytes : List ℕ) (wellformed : IsWellformed bytes) (file : List ℕ) (small : length file ≤ 2 ^ 28) (empty lists : List (Vec Match Global)) (count : ℕ)
-    (many : length empty ≡ length (image_in bytes).strings) (none : All (λ (v : Vec Match Global). v.items ≡ []) empty)
-    (taken : AreTaken (image_in bytes) file (items_of empty) (items_of lists) count) where
+module _ (bytes : List ℕ) (wellformed : IsWellformed bytes) (file : List ℕ) (small : length file ≤ 2 ^ 28) (empty left : State) (lists : List (Vec Match Global)) (count : ℕ)
+    (none : IsEmpty (image_in bytes) empty) (taken : AreTaken (image_in bytes) file empty left count)
+    (swept : TakesLater (image_in bytes) file 0 left.later left.lists (items_of lists)) where
   abbrev fronts : List (List ℕ)
   fronts = taken.walked.fronts
 
@@ -207,23 +206,19 @@ module _ (bytes : List ℕ) (wellformed : IsWellformed bytes) (file : List ℕ) 
       let long = ap (λ n. n * length (own (image_in bytes) 0)) taken.walked.are.count in
       omega (arith, sum, long, taken.counted, taken.walked.counted)
 
-  empty_at : (k : ℕ) (list : List Match) → slice_get (items_of empty) k ≡ Some list → list ≡ []
-  empty_at k list at =
-      let w = items_from empty k list at in
-      sym w.2 ∙ subst (λ (v : Vec Match Global). v.items ≡ []) (get_or_from_slice_get empty k w.0 w.0 w.1) (none k w.0 (slice_get_within empty k w.0 w.1))
-
-  gathered : IsGathered (image_in bytes) file (Taken bytes wellformed file taken.walked.fronts taken.walked.are) (items_of lists)
+  gathered : IsGathered (image_in bytes) file (λ a s. ⊥) (Taken bytes wellformed file taken.walked.fronts taken.walked.are) (items_of lists)
   gathered =
-      let start = gather_empty (image_in bytes) file (items_of empty) (items_length empty ∙ many) empty_at in
-      let root = gather_fronts (image_in bytes) file (λ a s. ⊥) 0 (root_fronts (image_in bytes) file) (items_of empty) taken.mid start taken.root in
-      gather_fronts (image_in bytes) file (λ a s. ⊥ ⊎ InFronts 0 (root_fronts (image_in bytes) file) a s) 0 taken.walked.fronts taken.mid (items_of lists) root taken.walked.takes
+      let start = gather_empty (image_in bytes) file empty none in
+      let root = gather_fronts (image_in bytes) file (λ a s. ⊥) 0 (root_fronts (image_in bytes) file) empty taken.mid start taken.root in
+      let all = gather_fronts (image_in bytes) file (λ a s. ⊥ ⊎ InFronts 0 (root_fronts (image_in bytes) file) a s) 0 taken.walked.fronts taken.mid left root taken.walked.takes in
+      gather_rest (image_in bytes) file (Taken bytes wellformed file taken.walked.fronts taken.walked.are) left (items_of lists) all swept
 
   holds_at : (k : ℕ) (string : StringRow) (list : List Match) → slice_get (image_in bytes).strings k ≡ Some string → slice_get (items_of lists) k ≡ Some list
       → Holds (IsCounted (image_in bytes) file all k) (is_greatest (image_in bytes) file string) list
   holds_at k string list is at =
       holds_counted (image_in bytes) file all (Taken bytes wellformed file taken.walked.fronts taken.walked.are) k (is_greatest (image_in bytes) file string) list
       (taken_hit bytes wellformed file taken.walked.fronts taken.walked.are) (hit_taken bytes wellformed file taken.walked.fronts taken.walked.are)
-      (gathered.each k string list is at)
+      (holds_all (image_in bytes) file (Taken bytes wellformed file taken.walked.fronts taken.walked.are) k (is_greatest (image_in bytes) file string) list (gathered.each k string list is at))
 
   lists_length : length lists ≡ length (image_in bytes).strings
   lists_length = sym (items_length lists) ∙ gathered.count
@@ -298,9 +293,12 @@ one_vec o v w p q = some_is v w (sym p ∙ q)
 pub one_string : (o : Option StringRow) (v w : StringRow) → o ≡ Some v → o ≡ Some w → v ≡ w
 one_string o v w p q = cc
 
-pub within_budget : (image : Image) (n before now : ℕ) → now ≤ before + 5 * (n + 1) + (n + 1) * front_cost image n → now ≤ before + search_budget image n
-within_budget image n before now le =
-    let same = ap (λ s. (n + 1) * s) (costs_are (output_cost image n) image.outputs) in omega (arith, le, same)
+-- where nothing was gathered yet, nothing was owed
+pub within_budget : (image : Image) (n before now : ℕ) (empty left : State) → IsEmpty image empty
+    → now + owed image n left ≤ before + owed image n empty + 5 * (n + 1) + (n + 1) * front_cost image n → now + owed image n left ≤ before + search_budget image n
+within_budget image n before now empty left none le =
+    let nothing = owed_none (cost_later image n) 0 empty.later none.later in
+    let same = ap (λ s. (n + 1) * s) (costs_are (output_cost image n) image.outputs) in omega (arith, le, same, nothing)
 
 -- the hits of node 0 are counted apart
 pub apart : (bytes : List ℕ) (wellformed : IsWellformed bytes) (file : List ℕ) (fronts : List (List ℕ)) → AreFronts (image_in bytes) file (length file) fronts

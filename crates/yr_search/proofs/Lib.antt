@@ -1,10 +1,5 @@
-pub mod SectionLemmas
-pub mod LendingLemmas
+pub mod StateLemmas
 pub mod SettleLemmas
-pub mod SideLemmas
-pub mod HitLemmas
-pub mod GrowLemmas
-pub mod StartLemmas
 pub mod TakeLemmas
 pub mod NodeLemmas
 pub mod WalkLemmas

@@ -17,9 +17,9 @@ use Rattle.yr_image.specs.Image.{Image}
 use Rattle.yr_image.specs.Reading.{image_in}
 use Rattle.yr_machine.specs.Wellformed.{IsWellformed}
 use Rattle.yr_machine.specs.Automaton.{IsNode}
-use Rattle.yr_search.specs.Taking.{HasAtomWithin}
+use Rattle.yr_hits.specs.Spans.{HasAtomWithin}
 use Rattle.yr_search.specs.Uppers.{own, upper_by, upper, depth_of, costs}
-use Rattle.yr_search.proofs.HitLemmas.{there}
+use Rattle.yr_hits.proofs.HitLemmas.{there}
 
 -- ---- what an image's nodes are
 

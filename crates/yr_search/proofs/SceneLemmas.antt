@@ -6,20 +6,21 @@ use Rattle.yr_rows.specs.Walk.{Asks}
 use Rattle.yr_rows.specs.declared.nodes.NodeRow.{NodeRow}
 use Rattle.yr_rows.specs.Nodes.{nodes_of, edges_of, outputs_of, edge_of, link_of, AreWellformed}
 use Rattle.yr_rows.proofs.ByteLemmas.{node_count, output_count}
+use Rattle.yr_rows.proofs.RowLemmas.{length-rows_in}
 use Rattle.yr_automaton.specs.Rows.{AreWellformedRows, edge, link}
 use Rattle.yr_automaton.specs.Rows as rows
-use Rattle.yr_answer.specs.MatchList.{Match}
 use Rattle.yr_image.specs.Image.{Image}
-use Rattle.yr_image.specs.Reading.{image_in}
+use Rattle.yr_image.specs.Reading.{image_in, split_row}
 use Rattle.yr_image.specs.Sections.{rows_of, bytes_of}
 use Rattle.yr_image.specs.Views.{shown_bytes, image_of}
 use Rattle.yr_machine.specs.Wellformed.{IsWellformed}
 use Rattle.yr_verifier.proofs.CallerLemmas.{has_sections}
-use Rattle.yr_search.specs.declared.hit.Scene.{Scene}
+use Rattle.yr_search.specs.State.{State}
+use Rattle.yr_search.specs.declared.scene.Scene.{Scene}
 use Rattle.yr_search.specs.Taking.{IsGoodScene, TakesAll, TakesFronts}
 use Rattle.yr_search.specs.Uppers.{own, upper}
 use Rattle.yr_search.specs.Walked.{repeated}
-use Rattle.yr_search.proofs.SectionLemmas.{section_bytes}
+use Rattle.yr_hits.proofs.SectionLemmas.{section_bytes}
 use Rattle.yr_search.proofs.NodeLemmas.{outputs_cost, costs_count}
 use Rattle.yr_search.proofs.WalkLemmas.{rows_are_wellformed}
 
@@ -76,11 +77,11 @@ module _ (scene : Scene) (good : IsGoodScene scene) where
 
 -- ---- fronts without outputs
 
-pub nothing_taken : (image : Image) (file : List ℕ) (e n : ℕ) (outputs : List ℕ) (lists : List (List Match)) → outputs ≡ []
-    → TakesFronts image file e (repeated n outputs) lists lists
-nothing_taken image file e zero outputs lists none = refl
-nothing_taken image file e (suc n) outputs lists none =
-    (lists, subst (λ o. TakesAll image file e o lists lists) (sym none) refl, nothing_taken image file (e + 1) n outputs lists none)
+pub nothing_taken : (image : Image) (file : List ℕ) (e n : ℕ) (outputs : List ℕ) (state : State) → outputs ≡ []
+    → TakesFronts image file e (repeated n outputs) state state
+nothing_taken image file e zero outputs state none = refl
+nothing_taken image file e (suc n) outputs state none =
+    (state, subst (λ o. TakesAll image file e o state state) (sym none) refl, nothing_taken image file (e + 1) n outputs state none)
 
 pub repeated_next : (n at : ℕ) (outputs : List ℕ) → at < n → repeated (n - at) outputs ≡ outputs ∷ repeated (n - (at + 1)) outputs
 repeated_next n at outputs lt =
@@ -122,3 +123,15 @@ pub node_rows : (bytes : List ℕ) → IsWellformed bytes → length (image_in b
 node_rows bytes wellformed =
     let size = section_bytes bytes 8 (has_sections bytes wellformed) (omega arith) in
     omega (arith, size, node_count (bytes_of bytes 8))
+
+pub split_rows : (bytes : List ℕ) → IsWellformed bytes → length (image_in bytes).splits ≡ rows_of bytes 4
+split_rows bytes wellformed =
+    let size = section_bytes bytes 4 (has_sections bytes wellformed) (omega arith) in
+    omega (arith, size, length-rows_in 32 split_row (bytes_of bytes 4))
+
+pub few_splits : (bytes : List ℕ) → IsWellformed bytes → length (image_in bytes).splits < 134217728
+few_splits bytes wellformed =
+    let has = has_sections bytes wellformed in
+    let size = section_bytes bytes 4 has (omega arith) in
+    let inside = (has.sections 4 (omega arith)).inside in
+    omega (arith, size, inside, has.whole.0, has.whole.1, split_rows bytes wellformed)

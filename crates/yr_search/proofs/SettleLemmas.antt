@@ -1,27 +1,13 @@
 -- A sorted list of which the first is kept of each offset.
-use Rattle.std.proofs.Common.{◌≡◌, ◌≢◌, ℕ, zero, suc, ◌+◌, ◌<◌, ◌≤◌, ◌⊎◌, inl, inr, Bool, true, false, cond, List, [], ◌∷◌, Contains, true≢false, refl, sym, ap, ◌∙◌, subst, arith}
+use Rattle.std.proofs.Common.{◌≡◌, ◌≢◌, ℕ, suc, ◌+◌, ◌<◌, ◌≤◌, inl, inr, Bool, true, false, cond, List, [], ◌∷◌, Contains, true≢false, refl, sym, ap, ◌∙◌, subst, arith}
 use Rattle.std.specs.List.{dedup, dedup_from}
 use Rattle.std.specs.List.Sorted.{IsNonDecreasingBy, IsPermutation}
 use Rattle.std.proofs.lemmas.List.Kept.{Contains-from_dedup}
 use Rattle.std.proofs.lemmas.List.Sorted.{Contains-permutation, IsPermutation-sym}
 use Rattle.std.proofs.lemmas.Bool.Decides.{Decides-eqb}
 use Rattle.yr_answer.specs.MatchList.{Match, RisesFrom}
-use Rattle.yr_search.specs.Gathering.{DoesFor, IsSettled, AreShort, has_same_offset, order_of}
-
--- ---- members of a list
-
-pub contains_first : {X : Type 0} (x : X) (xs : List X) → Contains (x ∷ xs) x
-contains_first x xs = (0, omega arith, refl)
-
-pub contains_later : {X : Type 0} (y x : X) (xs : List X) → Contains xs x → Contains (y ∷ xs) x
-contains_later y x xs h = (suc h.0, omega (arith, h.1), h.2)
-
-pub contains_none : {X : Type 0} (x : X) → Contains [] x → ⊥
-contains_none x h = omega (arith, h.1)
-
-pub contains_cases : {X : Type 0} (y x : X) (xs : List X) → Contains (y ∷ xs) x → (y ≡ x) ⊎ Contains xs x
-contains_cases {X} y x xs (zero, lt, is) = inl is
-contains_cases {X} y x xs (suc k, lt, is) = inr (k, omega (arith, lt), is)
+use Rattle.yr_hits.proofs.MemberLemmas.{contains_first, contains_later, contains_none, contains_cases}
+use Rattle.yr_hits.specs.Gathering.{DoesFor, IsSettled, AreShort, has_same_offset, order_of}
 
 -- ---- the first of each offset
 

@@ -9,17 +9,17 @@ use Rattle.std.proofs.Math.Nat.{mul-le-mul_left}
 use Rattle.yr_rows.specs.declared.nodes.NodeRow.{NodeRow}
 use Rattle.yr_rows.specs.Nodes.{edges_of, edge_of}
 use Rattle.yr_automaton.specs.Rows as rows
-use Rattle.yr_answer.specs.MatchList.{Match}
 use Rattle.yr_image.specs.Image.{Image}
 use Rattle.yr_image.specs.Reading.{image_in}
 use Rattle.yr_image.specs.Views.{image_of}
 use Rattle.yr_machine.specs.Wellformed.{IsWellformed}
-use Rattle.yr_search.specs.declared.hit.Scene.{Scene}
+use Rattle.yr_search.specs.State.{State}
+use Rattle.yr_search.specs.declared.scene.Scene.{Scene}
 use Rattle.yr_search.specs.Taking.{IsGoodScene, TakesAll}
 use Rattle.yr_search.specs.Uppers.{own, upper, depth_of, LeadsFrom0}
 use Rattle.yr_search.specs.Walked.{Stands, Walked, IsUpperAfter}
 use Rattle.yr_search.specs.Skips.{IsPassed, IsPairTable}
-use Rattle.yr_search.proofs.HitLemmas.{there}
+use Rattle.yr_hits.proofs.HitLemmas.{there}
 use Rattle.yr_search.proofs.NodeLemmas.{node_is, depth_is, link_is, link_falls, upper_at, own_length}
 use Rattle.yr_search.proofs.WalkLemmas.{stands_step, stands_at, edge_deeper, root_depth, walked_next}
 use Rattle.yr_search.proofs.SceneLemmas.{some_nodes}
@@ -121,7 +121,7 @@ module _ (bytes : List ℕ) (wellformed : IsWellformed bytes) (file : List ℕ) 
       let done = passed_at p b c stands at next passed in
       (done.0, (done.1.0, done.1.1, done.1.2, sym done.1.3))
 
-  pub pass_one : (p b c : ℕ) (old new : List (List Match)) (count : ℕ) → Stands (image_in bytes) file p 0 → slice_get file p ≡ Some b → slice_get file (p + 1) ≡ Some c
+  pub pass_one : (p b c : ℕ) (old new : State) (count : ℕ) → Stands (image_in bytes) file p 0 → slice_get file p ≡ Some b → slice_get file (p + 1) ≡ Some c
       → IsPassed (image_in bytes) b c → Walked (image_in bytes) file p old new count
       → Stands (image_in bytes) file (p + 1) 0 × Walked (image_in bytes) file (p + 1) old new count
   pass_one p b c old new count stands at next passed w =
@@ -133,7 +133,7 @@ module _ (bytes : List ℕ) (wellformed : IsWellformed bytes) (file : List ℕ) 
       (subst (λ o. TakesAll (image_in bytes) file (p + 1) o new new) (sym none) refl) in
       (done.0, subst (λ n. Walked (image_in bytes) file (p + 1) old new n) (omega (arith, long)) walked)
 
-  pass_some : (table : List Bool) → IsPairTable (image_in bytes) table → ((i : ℕ) → slice_index file i < 256) → (d p q : ℕ) (old new : List (List Match)) (count : ℕ) → q ≡ p + d → q < length file
+  pass_some : (table : List Bool) → IsPairTable (image_in bytes) table → ((i : ℕ) → slice_index file i < 256) → (d p q : ℕ) (old new : State) (count : ℕ) → q ≡ p + d → q < length file
       → ((k : ℕ) → p ≤ k → k < q → slice_get table (slice_index file k * 256 + slice_index file (k + 1)) ≡ Some false)
       → Stands (image_in bytes) file p 0 → Walked (image_in bytes) file p old new count
       → Stands (image_in bytes) file q 0 × Walked (image_in bytes) file q old new count
@@ -147,7 +147,7 @@ module _ (bytes : List ℕ) (wellformed : IsWellformed bytes) (file : List ℕ) 
       pass_some table is small d (p + 1) q old new count (omega (arith, far)) lt (λ k le. passed k (omega (arith, le))) one.0 one.1
 
   -- where the walk stands at node 0, places up to the next live pair are passed; elsewhere none is
-  pub pass_to : (table : List Bool) → IsPairTable (image_in bytes) table → ((i : ℕ) → slice_index file i < 256) → (p q node : ℕ) (old new : List (List Match)) (count : ℕ) → p ≤ q → q < length file
+  pub pass_to : (table : List Bool) → IsPairTable (image_in bytes) table → ((i : ℕ) → slice_index file i < 256) → (p q node : ℕ) (old new : State) (count : ℕ) → p ≤ q → q < length file
       → ((k : ℕ) → p ≤ k → k < q → (node ≡ 0) × (slice_get table (slice_index file k * 256 + slice_index file (k + 1)) ≡ Some false))
       → Stands (image_in bytes) file p node → Walked (image_in bytes) file p old new count
       → Stands (image_in bytes) file q node × Walked (image_in bytes) file q old new count

@@ -7,7 +7,7 @@ use Rattle.yr_rows.specs.Nodes.{edge_of, link_of}
 use Rattle.yr_automaton.specs.Rows as rows
 use Rattle.yr_image.specs.Image.{Image}
 use Rattle.yr_image.specs.Views.{image_of}
-use Rattle.yr_search.specs.declared.hit.Scene.{Scene}
+use Rattle.yr_search.specs.declared.scene.Scene.{Scene}
 use Rattle.yr_search.specs.Taking.{IsGoodScene}
 use Rattle.yr_search.specs.Skips.{LeadsOn}
 

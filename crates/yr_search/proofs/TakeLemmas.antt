@@ -1,83 +1,28 @@
--- Hits that are taken, and what the checks of an image say of its splits.
-use Rattle.std.proofs.Common.{◌≡◌, ℕ, zero, suc, ◌+◌, ◌<◌, ◌↔◌, Bool, true, List, [], ◌∷◌, ◌++◌, length, set, Some, option_map, refl, sym, ap, ◌∙◌, subst, arith}
+-- Hits that are taken, at once or later.
+use Rattle.std.proofs.Common.{◌≡◌, ℕ, zero, suc, ◌+◌, ◌<◌, ◌≤◌, inl, inr, Bool, Option, List, [], ◌∷◌, ◌++◌, length, set, Contains, Some, option_map, Result, Ok, Err, OnOk, OnErr, refl, sym, ap, ◌∙◌, subst, arith}
 use Rattle.std.specs.Prelude.{slice_get, Vec}
-use Rattle.std.specs.Option.{option_map_or}
-use Rattle.std.proofs.lemmas.Bool.{ltb-true}
 use Rattle.std.specs.declared.alloc.Global.{Global}
 use Rattle.std.proofs.lemmas.Option.{slice_get-map}
-use Rattle.yr_base.specs.declared.border.Border.{Border}
-use Rattle.yr_base.specs.Places.{has_left_border, has_right_border}
+use Rattle.std.proofs.lemmas.List.Elements.{Contains-append_cases}
 use Rattle.yr_answer.specs.MatchList.{Match}
-use Rattle.yr_image.specs.declared.fault.ImageFault.TheVariants.{Index}
 use Rattle.yr_image.specs.declared.rows.SplitRow.{SplitRow}
 use Rattle.yr_image.specs.declared.rows.StringRow.{StringRow}
 use Rattle.yr_image.specs.Image.{Image}
-use Rattle.yr_image.specs.Reading.{image_in, zeros_in}
 use Rattle.yr_image.specs.Views.{image_of}
-use Rattle.yr_machine.specs.Rows.{is_good_split, is_good_output}
-use Rattle.yr_machine.specs.Wellformed.{IsWellformed}
-use Rattle.yr_machine.specs.ImageMatches.{SideSpans, border_of, is_greatest}
+use Rattle.yr_machine.specs.ImageMatches.{is_greatest}
 use Rattle.yr_matches.specs.Found.{items_of}
-use Rattle.yr_search.specs.declared.hit.Hit.{Hit}
-use Rattle.yr_search.specs.Gathering.{Grows}
-use Rattle.yr_search.specs.Spans.{IsSpan, IsSpanOf, IsGoodHit, begin_of}
-use Rattle.yr_search.specs.Taking.{Takes, TakesAll, TakesFronts}
-use Rattle.yr_search.proofs.GrowLemmas.{grows_as}
-use Rattle.yr_search.proofs.HitLemmas.{there}
-
--- ---- what the checks say
-
--- the number of the fields of a split that are not used, and that its row is good
-pub split_is_good : (bytes : List ℕ) (k : ℕ) (row : SplitRow) → IsWellformed bytes → slice_get (image_in bytes).splits k ≡ Some row
-    → (unused : ℕ) × (is_good_split (image_in bytes) unused row ≡ true)
-split_is_good bytes k row wellformed at =
-    let unused = option_map_or (λ (sum : ℕ). sum) (slice_get (zeros_in bytes) k) 0 in
-    let test : SplitRow → Bool = is_good_split (image_in bytes) unused in
-    let passes : option_map_or test (slice_get (image_in bytes).splits k) true ≡ true = wellformed (Index 4 k) in
-    (unused, subst (λ o. option_map_or test o true ≡ true) at passes)
-
--- an output names a split
-pub output_is_split : (bytes : List ℕ) (k split : ℕ) → IsWellformed bytes → slice_get (image_in bytes).outputs k ≡ Some split
-    → split < length (image_in bytes).splits
-output_is_split bytes k split wellformed at =
-    let test : ℕ → Bool = is_good_output (image_in bytes) in
-    let passes : option_map_or test (slice_get (image_in bytes).outputs k) true ≡ true = wellformed (Index 10 k) in
-    ltb-true split (length (image_in bytes).splits) (subst (λ o. option_map_or test o true ≡ true) at passes)
-
--- ---- the spans of a hit
-
-one_border : (n : ℕ) (a b : Border) → border_of n ≡ Some a → border_of n ≡ Some b → a ≡ b
-one_border n a b p q = cc
-
-pub span_of : (hit : Hit) → IsGoodHit hit → (i j : ℕ) → (IsSpanOf hit i j) ↔ (IsSpan (image_of hit.view.now) hit.file.now hit.row hit.at i j)
-span_of hit good i j = (
-  λ h. record {
-    spans = record {
-      begin = begin_of hit;
-      atom = omega (arith, good.begins);
-      before = h.0.0;
-      before_is = h.0.1;
-      before_spans = h.0.2;
-      after = h.2.0.0;
-      after_is = h.2.0.1;
-      after_spans = h.2.0.2;
-    };
-    longer = h.3;
-    border = hit.border;
-    border_is = good.border_is;
-    begins = h.1;
-    ends = h.2.1;
-  },
-  λ s.
-      let begin : s.spans.begin ≡ begin_of hit = omega (arith, s.spans.atom) in
-      let border : s.border ≡ hit.border = one_border hit.row.border s.border hit.border s.border_is good.border_is in
-      let B : ℕ → Type 0 = λ b. SideSpans (image_of hit.view.now) hit.file.now true hit.row s.spans.before i b in (
-        (s.spans.before, s.spans.before_is, subst B begin s.spans.before_spans),
-        subst (λ b. has_left_border b hit.file.now i ≡ true) border s.begins,
-        ((s.spans.after, s.spans.after_is, s.spans.after_spans), subst (λ b. has_right_border b hit.file.now j ≡ true) border s.ends),
-        s.longer,
-      ),
-)
+use Rattle.yr_hits.specs.declared.hit.Hit.{Hit}
+use Rattle.yr_hits.specs.Gathering.{Grows}
+use Rattle.yr_hits.specs.Spans.{IsSpan, IsSpanOf, IsSpanOfSome, IsGoodHit, HasAtomWithin}
+use Rattle.yr_sweep.specs.Sweeps.{Sweeps}
+use Rattle.yr_search.specs.declared.gathered.Gathered.{Gathered}
+use Rattle.yr_search.specs.State.{State, state_of, hits_in, AreInFile, IsFor, owed_by, cost_later, owed}
+use Rattle.yr_search.specs.Taking.{Adds, Leaves, Takes, TakesAll, TakesFronts, TakesLater}
+use Rattle.yr_hits.proofs.SplitLemmas.{span_of}
+use Rattle.yr_hits.proofs.GrowLemmas.{grows_as, grows_none}
+use Rattle.yr_hits.proofs.HitLemmas.{there}
+use Rattle.yr_hits.proofs.MemberLemmas.{contains_first, contains_none, contains_cases}
+use Rattle.yr_search.proofs.StateLemmas.{set_cases, set_same, set_length, hits_length, owed_more}
 
 -- ---- lists of vectors
 
@@ -89,19 +34,23 @@ items_set (x ∷ xs) (suc k) v = ap (λ l. x.items ∷ l) (items_set xs k v)
 pub items_get : (xs : List (Vec Match Global)) (k : ℕ) (v : Vec Match Global) → slice_get xs k ≡ Some v → slice_get (items_of xs) k ≡ Some v.items
 items_get xs k v at = slice_get-map (λ w. w.items) xs k ∙ ap (option_map (λ w. w.items)) at
 
+pub items_length : (ws : List (Vec Match Global)) → length (items_of ws) ≡ length ws
+items_length [] = refl
+items_length (w ∷ ws) = ap suc (items_length ws)
+
 -- ---- one hit more
 
-pub takes_more : (image : Image) (file : List ℕ) (e : ℕ) (splits : List ℕ) (split : ℕ) (a b c : List (List Match)) → TakesAll image file e splits a b
+pub takes_more : (image : Image) (file : List ℕ) (e : ℕ) (splits : List ℕ) (split : ℕ) (a b c : State) → TakesAll image file e splits a b
     → Takes image file e split b c → TakesAll image file e (splits ++ split ∷ []) a c
 takes_more image file e [] split a b c same t = (c, subst (λ l. Takes image file e split l c) (sym same) t, refl)
 takes_more image file e (s ∷ ss) split a b c all t = (all.0, all.1, takes_more image file e ss split all.0 b c all.2 t)
 
-pub takes_then : (image : Image) (file : List ℕ) (e : ℕ) (first second : List ℕ) (a b c : List (List Match)) → TakesAll image file e first a b
+pub takes_then : (image : Image) (file : List ℕ) (e : ℕ) (first second : List ℕ) (a b c : State) → TakesAll image file e first a b
     → TakesAll image file e second b c → TakesAll image file e (first ++ second) a c
 takes_then image file e [] second a b c same t = subst (λ l. TakesAll image file e second l c) (sym same) t
 takes_then image file e (s ∷ ss) second a b c all t = (all.0, all.1, takes_then image file e ss second all.0 b c all.2 t)
 
-pub fronts_more : (image : Image) (file : List ℕ) (e : ℕ) (fronts : List (List ℕ)) (splits : List ℕ) (at : ℕ) (a b c : List (List Match))
+pub fronts_more : (image : Image) (file : List ℕ) (e : ℕ) (fronts : List (List ℕ)) (splits : List ℕ) (at : ℕ) (a b c : State)
     → TakesFronts image file e fronts a b → at ≡ e + length fronts → TakesAll image file at splits b c → TakesFronts image file e (fronts ++ splits ∷ []) a c
 fronts_more image file e [] splits at a b c same is t =
     let here : at ≡ e = omega (arith, is) in
@@ -109,18 +58,31 @@ fronts_more image file e [] splits at a b c same is t =
 fronts_more image file e (f ∷ fs) splits at a b c all is t =
     (all.0, all.1, fronts_more image file (e + 1) fs splits at all.0 b c all.2 (omega (arith, is)) t)
 
-pub takes_of : (image : Image) (file : List ℕ) (e split : ℕ) (hit : Hit) → IsGoodHit hit → image_of hit.view.now ≡ image → hit.file.now ≡ file → hit.at ≡ e
+-- ---- the spans of a hit, and of many
+
+-- a span of the one hit
+pub of_one : (image : Image) (file : List ℕ) (row : SplitRow) (e i j : ℕ) → IsSpanOfSome image file row (e ∷ []) i j → IsSpan image file row e i j
+of_one image file row e i j s = elim (contains_cases e s.0 [] s.1) [
+  | inl is ↦ subst (λ n. IsSpan image file row n i j) (sym is) s.2
+  | inr later ↦ absurd (contains_none s.0 later)
+]
+
+pub adds_of : (image : Image) (file : List ℕ) (e split : ℕ) (hit : Hit) → IsGoodHit hit → image_of hit.view.now ≡ image → hit.file.now ≡ file → hit.at ≡ e
     → slice_get image.splits split ≡ Some hit.row
     → ((string : StringRow) → slice_get image.strings hit.row.string ≡ Some string → hit.greatest ≡ is_greatest image file string)
     → (lists : List (Vec Match Global)) → length lists ≡ length image.strings → hit.row.string < length image.strings
     → (list grown : Vec Match Global) → slice_get lists hit.row.string ≡ Some list
     → Grows (IsSpanOf hit) hit.greatest list.items grown.items
-    → Takes image file e split (items_of lists) (items_of (set lists hit.row.string grown))
-takes_of image file e split hit good im fi at row greatest lists count lt list grown is_list grows =
+    → Adds image file split (e ∷ []) (items_of lists) (items_of (set lists hit.row.string grown))
+adds_of image file e split hit good im fi at row greatest lists count lt list grown is_list grows =
     let string = there image.strings hit.row.string lt in
     let spans = grows_as hit.greatest (IsSpanOf hit) (IsSpan (image_of hit.view.now) hit.file.now hit.row hit.at) list.items grown.items grows
     (λ i j. (span_of hit good i j).0) (λ i j. (span_of hit good i j).1) in
     let G : Image → List ℕ → ℕ → Bool → Type 0 = λ m f n b. Grows (IsSpan m f hit.row n) b list.items grown.items in
+    let one = subst (λ m. G m file e (is_greatest image file string.0)) im
+    (subst (λ f. G (image_of hit.view.now) f e (is_greatest image file string.0)) fi
+    (subst (λ n. G (image_of hit.view.now) hit.file.now n (is_greatest image file string.0)) at
+    (subst (λ b. G (image_of hit.view.now) hit.file.now hit.at b) (greatest string.0 string.1) spans))) in
     record {
       row = hit.row;
       is_row = row;
@@ -130,8 +92,96 @@ takes_of image file e split hit good im fi at row greatest lists count lt list g
       is_list = items_get lists hit.row.string list is_list;
       grown = grown.items;
       is_new = items_set lists hit.row.string grown;
-      grows = subst (λ m. G m file e (is_greatest image file string.0)) im
-          (subst (λ f. G (image_of hit.view.now) f e (is_greatest image file string.0)) fi
-          (subst (λ n. G (image_of hit.view.now) hit.file.now n (is_greatest image file string.0)) at
-          (subst (λ b. G (image_of hit.view.now) hit.file.now hit.at b) (greatest string.0 string.1) spans)));
+      grows = grows_as (is_greatest image file string.0) (IsSpan image file hit.row e) (IsSpanOfSome image file hit.row (e ∷ [])) list.items grown.items one
+          (λ i j s. (e, contains_first e [], s)) (λ i j s. of_one image file hit.row e i j s);
     }
+
+-- the spans of hits that are swept
+pub adds_swept : (image : Image) (file : List ℕ) (split : ℕ) (hits : List ℕ) (row : SplitRow) → slice_get image.splits split ≡ Some row
+    → (lists : List (Vec Match Global)) (list grown : Vec Match Global) → slice_get lists row.string ≡ Some list
+    → Sweeps image file split hits list.items grown.items → Adds image file split hits (items_of lists) (items_of (set lists row.string grown))
+adds_swept image file split hits row is_row lists list grown is_list s =
+    let same : s.row ≡ row = one_row (slice_get image.splits split) s.row row s.is_row is_row in
+    record {
+      row = row;
+      is_row = is_row;
+      string = s.string;
+      is_string = subst (λ (r : SplitRow). slice_get image.strings r.string ≡ Some s.string) same s.is_string;
+      list = list.items;
+      is_list = items_get lists row.string list is_list;
+      grown = grown.items;
+      is_new = items_set lists row.string grown;
+      grows = subst (λ (r : SplitRow). Grows (IsSpanOfSome image file r hits) (is_greatest image file s.string) list.items grown.items) same s.grows;
+    }
+  where
+    one_row : (o : Option SplitRow) (r t : SplitRow) → o ≡ Some r → o ≡ Some t → r ≡ t
+    one_row o r t p q = cc
+
+-- no hits give nothing
+pub adds_none : (image : Image) (file : List ℕ) (split : ℕ) (hits : List ℕ) (row : SplitRow) → hits ≡ [] → slice_get image.splits split ≡ Some row
+    → (lists : List (List Match)) → length lists ≡ length image.strings → row.string < length image.strings → Adds image file split hits lists lists
+adds_none image file split hits row none is_row lists count lt =
+    let string = there image.strings row.string lt in
+    let list = there lists row.string (omega (arith, lt, count)) in
+    record {
+      row = row;
+      is_row = is_row;
+      string = string.0;
+      is_string = string.1;
+      list = list.0;
+      is_list = list.1;
+      grown = list.0;
+      is_new = sym (set_same lists row.string list.0 list.1);
+      grows = grows_none (is_greatest image file string.0) (IsSpanOfSome image file row hits) list.0
+          (λ i j s. contains_none s.0 (subst (λ l. Contains l s.0) none s.1));
+    }
+
+-- ---- hits that were left for later, the last split first
+
+pub later_more : (image : Image) (file : List ℕ) (first : ℕ) (later : List (List ℕ)) (hits : List ℕ) (split : ℕ) (a b c : List (List Match)) → split ≡ first + length later
+    → Adds image file split hits a b → TakesLater image file first later b c → TakesLater image file first (later ++ hits ∷ []) a c
+later_more image file first [] hits split a b c is adds same =
+    let here : split ≡ first = omega (arith, is) in
+    (a, refl, subst (λ l. Adds image file first hits a l) same (subst (λ n. Adds image file n hits a b) here adds))
+later_more image file first (h ∷ later) hits split a b c is adds t =
+    (t.0, later_more image file (first + 1) later hits split a b t.0 (omega (arith, is)) adds t.1, t.2)
+
+-- ---- the hits that are left lie in the file
+
+pub inside_more : (image : Image) (file : List ℕ) (later : List (List ℕ)) (split e : ℕ) (hits : List ℕ) → AreInFile image file later
+    → slice_get later split ≡ Some hits → e ≤ length file → HasAtomWithin image e split → AreInFile image file (set later split (hits ++ e ∷ []))
+inside_more image file later split e hits inside at low atom s x get n c = elim (set_cases later split (hits ++ e ∷ []) s x get) [
+  | inl here ↦
+      let C : ℕ → Type 0 = λ k. (n ≤ length file) × HasAtomWithin image n k in
+      subst C (sym here.0) (elim (Contains-append_cases hits (e ∷ []) n (subst (λ l. Contains l n) (sym here.1) c)) [
+        | inl l ↦ inside split hits at n l
+        | inr r ↦ elim (contains_cases e n [] r) [
+          | inl is ↦ subst (λ m. (m ≤ length file) × HasAtomWithin image m split) is (low, atom)
+          | inr none ↦ absurd (contains_none n none)
+        ]
+      ])
+  | inr other ↦ inside s x other.1 n c
+]
+
+-- a hit is left where there is a place for it
+pub fits_more : (image : Image) (file : List ℕ) (e split : ℕ) (old new : Gathered) → IsFor image file old → e ≤ length file → HasAtomWithin image e split
+    → new.lists ≡ old.lists → new.spent ≡ old.spent → Leaves e split (state_of old) (state_of new) → IsFor image file new
+fits_more image file e split old new fits low atom lists spent t = record {
+  lists = ap (λ (l : Vec (Vec Match Global) Global). length l.items) lists ∙ fits.lists;
+  later = sym (hits_length new.later.items) ∙ ap length t.later ∙ set_length (hits_in old.later.items) split (t.hits ++ e ∷ []) ∙ hits_length old.later.items ∙ fits.later;
+  spent = ap (λ (l : Vec ℕ Global). length l.items) spent ∙ fits.spent;
+  inside = subst (AreInFile image file) (sym t.later) (inside_more image file (hits_in old.later.items) split e t.hits fits.inside t.is_hits low atom);
+}
+
+-- and what is owed then
+pub owed_left : (image : Image) (n e split : ℕ) (old new : State) → Leaves e split old new → owed image n new ≡ owed image n old + cost_later image n split
+owed_left image n e split old new t =
+    let here : 0 + split ≡ split = omega arith in
+    ap (owed_by (cost_later image n) 0) t.later ∙ owed_more (cost_later image n) 0 old.later split e t.hits t.is_hits
+    ∙ ap (λ k. owed_by (cost_later image n) 0 old.later + cost_later image n k) here
+
+-- whether there was memory for it or not
+pub owed_either : {T E : Type 0} (image : Image) (n e split : ℕ) (old new : State) (r : Result T E) → OnOk r (Leaves e split old new) → OnErr r (new ≡ old)
+    → owed image n new ≤ owed image n old + cost_later image n split
+owed_either image n e split old new (Ok v) left kept = omega (arith, owed_left image n e split old new left)
+owed_either image n e split old new (Err x) left kept = omega (arith, ap (owed image n) kept)

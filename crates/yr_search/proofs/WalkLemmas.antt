@@ -7,17 +7,17 @@ use Rattle.yr_rows.specs.declared.nodes.NodeRow.{NodeRow}
 use Rattle.yr_rows.specs.declared.nodes.EdgeRow.{EdgeRow}
 use Rattle.yr_rows.specs.Walk.{Asks, Walks}
 use Rattle.yr_rows.specs.Nodes.{edge_of, link_of, edges_at, target_in, AreWellformed, IsEdge}
-use Rattle.yr_answer.specs.MatchList.{Match}
 use Rattle.yr_image.specs.declared.fault.ImageFault.TheVariants.{Index}
 use Rattle.yr_image.specs.Image.{Image}
 use Rattle.yr_image.specs.Reading.{image_in}
 use Rattle.yr_machine.specs.Rows.{is_good_edge}
 use Rattle.yr_machine.specs.Wellformed.{IsWellformed}
+use Rattle.yr_search.specs.State.{State}
 use Rattle.yr_search.specs.Taking.{TakesAll}
 use Rattle.yr_search.specs.Uppers.{upper, depth_of, LeadsFrom0}
 use Rattle.yr_search.specs.Walked.{IsUpperAfter, AreFronts, Stands, total, Walked}
-use Rattle.yr_search.proofs.SideLemmas.{and_first, and_second}
-use Rattle.yr_search.proofs.HitLemmas.{there}
+use Rattle.yr_hits.proofs.SideLemmas.{and_first, and_second}
+use Rattle.yr_hits.proofs.HitLemmas.{there}
 use Rattle.yr_search.proofs.NodeLemmas.{node_is, depth_is, link_is, link_falls}
 use Rattle.yr_search.proofs.TakeLemmas.{fronts_more}
 
@@ -158,10 +158,10 @@ module _ (image : Image) (file : List ℕ) where
   total_more [] outputs = omega arith
   total_more (f ∷ fs) outputs = let rest = total_more fs outputs in omega (arith, rest)
 
-  pub walked_first : (lists : List (List Match)) → 0 < length image.nodes → Walked image file 0 lists lists 0
-  walked_first lists lt = record { fronts = [] ∷ []; are = fronts_first lt; takes = (lists, refl, refl); counted = refl }
+  pub walked_first : (state : State) → 0 < length image.nodes → Walked image file 0 state state 0
+  walked_first state lt = record { fronts = [] ∷ []; are = fronts_first lt; takes = (state, refl, refl); counted = refl }
 
-  pub walked_next : (p x : ℕ) (old mid new : List (List Match)) (count : ℕ) → Walked image file p old mid count → LeadsFrom0 image (take (p + 1) file) x → x < length image.nodes
+  pub walked_next : (p x : ℕ) (old mid new : State) (count : ℕ) → Walked image file p old mid count → LeadsFrom0 image (take (p + 1) file) x → x < length image.nodes
       → TakesAll image file (p + 1) (upper image x) mid new → Walked image file (p + 1) old new (count + length (upper image x))
   walked_next p x old mid new count w leads inside takes = record {
     fronts = w.fronts ++ upper image x ∷ [];

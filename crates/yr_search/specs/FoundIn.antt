@@ -7,7 +7,8 @@ use Rattle.yr_image.specs.Image.{Image}
 use Rattle.yr_machine.specs.Hits.{AreHits, hit_count}
 use Rattle.yr_machine.specs.ImageMatches.{AreImageMatches, is_greatest}
 use Rattle.yr_matches.specs.Found.{Found}
-use Rattle.yr_search.specs.Gathering.{IsSettled, AreShort}
+use Rattle.yr_hits.specs.Gathering.{IsSettled, AreShort}
+use Rattle.yr_search.specs.State.{State}
 use Rattle.yr_search.specs.Taking.{TakesFronts}
 use Rattle.yr_search.specs.Uppers.{own}
 use Rattle.yr_search.specs.Walked.{Walked, root_fronts}
@@ -20,8 +21,8 @@ pub record IsFoundIn (image : Image) (file : List ℕ) (found : Found) : Type 0 
   pub lists : AreImageMatches image file hits found.lists
 
 -- all hits are taken: first those of node 0 after each front, then the others
-pub record AreTaken (image : Image) (file : List ℕ) (old new : List (List Match)) (count : ℕ) : Type 0 where
-  pub mid : List (List Match)
+pub record AreTaken (image : Image) (file : List ℕ) (old new : State) (count : ℕ) : Type 0 where
+  pub mid : State
   pub root : TakesFronts image file 0 (root_fronts image file) old mid
   pub others : ℕ
   pub walked : Walked image file (length file) mid new others

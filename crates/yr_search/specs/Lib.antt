@@ -1,7 +1,5 @@
-pub mod Programs
 pub mod Scratches
-pub mod Gathering
-pub mod Spans
+pub mod State
 pub mod Taking
 pub mod Uppers
 pub mod Walked

@@ -2,7 +2,7 @@
 use Rattle.std.specs.Prelude.{ℕ, List}
 use Rattle.yr_image.specs.Reading.{image_in}
 use Rattle.yr_search.specs.declared.scratch.Scratch.{Scratch}
-use Rattle.yr_search.specs.Programs.{HasRoom}
+use Rattle.yr_hits.specs.Programs.{HasRoom}
 use Rattle.yr_search.specs.Skips.{AreSkips}
 
 -- the scratch was made for the image in these bytes

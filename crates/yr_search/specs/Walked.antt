@@ -1,9 +1,9 @@
 -- How far a search has come: the hits of the fronts that are done, and where it stands.
 use Rattle.std.specs.Prelude.{◌≡◌, ◌≢◌, ℕ, zero, suc, ◌+◌, ◌<◌, ◌⊎◌, List, [], ◌∷◌, length, take, Some, None, slice_get}
 use Rattle.yr_rows.specs.Nodes.{edge_of, link_of}
-use Rattle.yr_answer.specs.MatchList.{Match}
 use Rattle.yr_image.specs.Image.{Image}
 use Rattle.yr_machine.specs.Budget.{output_cost}
+use Rattle.yr_search.specs.State.{State}
 use Rattle.yr_search.specs.Taking.{TakesFronts}
 use Rattle.yr_search.specs.Uppers.{own, upper, costs, LeadsFrom0}
 
@@ -31,7 +31,7 @@ total [] = 0
 total (outputs ∷ fronts) = length outputs + total fronts
 
 -- the hits of the fronts up to p are taken, but for those of node 0
-pub record Walked (image : Image) (file : List ℕ) (p : ℕ) (old new : List (List Match)) (count : ℕ) : Type 0 where
+pub record Walked (image : Image) (file : List ℕ) (p : ℕ) (old new : State) (count : ℕ) : Type 0 where
   pub fronts : List (List ℕ)
   pub are : AreFronts image file p fronts
   pub takes : TakesFronts image file 0 fronts old new

@@ -1,12 +1,10 @@
 //! The search of a file for the strings of an image.
 #![tactic(auto)]
 
-mod ending;
+mod gathered;
 mod gathering;
-mod hit;
 pub mod laws;
-mod lending;
-mod literal;
+mod leaving;
 mod node;
 mod scene;
 mod scratch;
@@ -14,11 +12,9 @@ mod searching;
 mod settling;
 mod skipping;
 mod skips;
-mod starting;
 mod stepping;
 mod taking;
 mod walking;
 
-pub use lending::program;
 pub use scratch::Scratch;
 pub use searching::search;

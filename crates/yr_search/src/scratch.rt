@@ -3,12 +3,12 @@
 ghost use Rattle.std.specs.Prelude.{IfOk};
 ghost use Rattle.yr_verifier.specs.Verified.{bytes_of};
 
-use crate::lending::most_moves;
 use crate::scene::scene_of;
 use crate::skipping::skips_of;
 use crate::skips::Skips;
 use std::alloc::Global;
 use yr_base::NoMemory;
+use yr_hits::most_moves;
 use yr_moves::Marks;
 use yr_verifier::VerifiedImage;
 

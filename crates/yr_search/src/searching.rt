@@ -7,7 +7,7 @@ ghost use Rattle.yr_verifier.specs.Verified.{bytes_of};
 ghost use Rattle.yr_search.specs.FoundIn.{IsFoundIn};
 ghost use Rattle.yr_search.specs.Scratches.{IsScratchFor};
 
-use crate::gathering::{empty_lists, settle_all, take_all};
+use crate::gathering::{nothing, settle_all, take_all, take_later};
 use crate::scene::scene_of;
 use crate::scratch::Scratch;
 use std::alloc::Global;
@@ -32,15 +32,16 @@ pub fn search<L: Ledger>(
     ensures scratch { IsScratchFor (bytes_of image.now) scratch.new }
 {
     let view = image.view();
-    let mut lists = empty_lists(alloc, view.rows(3))?;
     let scene = scene_of(&view, file);
+    let mut gathered = nothing(alloc, &scene)?;
     let hits = take_all(
         &scene,
         &scratch.skips,
         &mut scratch.marks,
-        &mut lists,
+        &mut gathered,
         steps,
     )?;
-    settle_all(&scene, &mut lists);
-    Ok(Matches::new(lists, hits))
+    take_later(alloc, &scene, &mut scratch.marks, &mut gathered, steps)?;
+    settle_all(&scene, &mut gathered.lists);
+    Ok(Matches::new(gathered.lists, hits))
 }

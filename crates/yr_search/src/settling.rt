@@ -4,7 +4,7 @@ ghost use Rattle.std.specs.Prelude.{◌≡◌, true, false, IsTrue};
 ghost use Rattle.std.specs.List.{dedup};
 ghost use Rattle.std.specs.List.Sorted.{IsPermutation, IsNonDecreasingBy};
 ghost use Rattle.yr_answer.specs.MatchList.{RisesFrom};
-ghost use Rattle.yr_search.specs.Gathering.{IsSettled, AreShort, has_same_offset, order_of};
+ghost use Rattle.yr_hits.specs.Gathering.{IsSettled, AreShort, has_same_offset, order_of};
 
 /// How far one offset is from the next in the order of matches.
 const NEXT_OFFSET: u64 = 0x1_0000_0000;

@@ -5,7 +5,7 @@ ghost use Rattle.yr_image.specs.Views.{image_of};
 ghost use Rattle.yr_search.specs.Skips.{LeadsOn, AreRows, AreSkips};
 ghost use Rattle.yr_search.specs.Taking.{IsGoodScene};
 
-use crate::hit::Scene;
+use crate::scene::Scene;
 use crate::skips::Skips;
 use std::alloc::Global;
 use std::sync::ledger::Ledger;

@@ -3,15 +3,16 @@
 ghost use Rattle.std.specs.Prelude.{◌≡◌, ℕ, ◌+◌, ◌*◌, ◌^◌, ◌<◌, ◌≤◌, false, length, slice_get, slice_index, Some, OnOk, IfOk};
 ghost use Rattle.yr_image.specs.Views.{image_of};
 ghost use Rattle.yr_machine.specs.Budget.{output_cost};
-ghost use Rattle.yr_matches.specs.Found.{items_of};
-ghost use Rattle.yr_search.specs.Programs.{HasRoom};
+ghost use Rattle.yr_hits.specs.Programs.{HasRoom};
+ghost use Rattle.yr_search.specs.State.{state_of, IsFor, owed};
 ghost use Rattle.yr_search.specs.Taking.{IsGoodScene, TakesAll, TakesFronts};
 ghost use Rattle.yr_search.specs.Uppers.{own, upper, depth_of, costs};
 ghost use Rattle.yr_search.specs.Skips.{AreSkips};
 ghost use Rattle.yr_search.specs.Walked.{Walked, root_fronts, front_cost};
 
-use crate::hit::Scene;
+use crate::gathered::Gathered;
 use crate::node::{take_own, take_upper};
+use crate::scene::Scene;
 use crate::skipping::next_live;
 use crate::skips::Skips;
 use crate::stepping::step;
@@ -24,19 +25,20 @@ use yr_rows::node_at;
 pub(crate) fn take_root<L: Ledger>(
     scene: &Scene<'_>,
     marks: &mut Marks,
-    lists: &mut Vec<Vec<(u32, u32)>>,
+    gathered: &mut Gathered,
     steps: &mut Steps<L>,
 ) -> Result<u64, NoMemory>
     requires scene { IsGoodScene scene.now }
     requires room { HasRoom (image_of scene.now.view.now) marks.old.room }
-    requires lists { length lists.old.items ≡ length (image_of scene.now.view.now).strings }
+    requires gathered { IsFor (image_of scene.now.view.now) scene.now.file.now gathered.old }
     ensures takes { OnOk result (TakesFronts (image_of scene.now.view.now) scene.now.file.now 0
-        (root_fronts (image_of scene.now.view.now) scene.now.file.now) (items_of lists.old.items) (items_of lists.new.items)) }
+        (root_fronts (image_of scene.now.view.now) scene.now.file.now) (state_of gathered.old) (state_of gathered.new)) }
     ensures count { IfOk result (λ count. count ≡ (length scene.now.file.now + 1) * length (own (image_of scene.now.view.now) 0)) }
     ensures room { marks.new.room ≡ marks.old.room }
-    ensures lists { length lists.new.items ≡ length lists.old.items }
+    ensures gathered { OnOk result (IsFor (image_of scene.now.view.now) scene.now.file.now gathered.new) }
     ensures least_cost { IfOk result (λ count. steps.old + count ≤ steps.new) }
-    ensures most_cost { steps.new ≤ steps.old + (length scene.now.file.now + 1)
+    ensures most_cost { steps.new + owed (image_of scene.now.view.now) (length scene.now.file.now) (state_of gathered.new)
+        ≤ steps.old + owed (image_of scene.now.view.now) (length scene.now.file.now) (state_of gathered.old) + (length scene.now.file.now + 1)
         * costs (output_cost (image_of scene.now.view.now) (length scene.now.file.now)) (own (image_of scene.now.view.now) 0) }
 {
     let mut count = 0;
@@ -44,7 +46,7 @@ pub(crate) fn take_root<L: Ledger>(
         return Ok(count);
     }
     for at in 0..scene.file.len() + 1 {
-        count += take_own(scene, 0, at, marks, lists, steps)?;
+        count += take_own(scene, 0, at, marks, gathered, steps)?;
     }
     Ok(count)
 }
@@ -72,7 +74,7 @@ fn take_flagged<L: Ledger>(
     node: u32,
     at: usize,
     marks: &mut Marks,
-    lists: &mut Vec<Vec<(u32, u32)>>,
+    gathered: &mut Gathered,
     steps: &mut Steps<L>,
 ) -> Result<u64, NoMemory>
     requires scene { IsGoodScene scene.now }
@@ -81,21 +83,22 @@ fn take_flagged<L: Ledger>(
     requires at { at ≤ length scene.now.file.now }
     requires depth { depth_of (image_of scene.now.view.now) node ≤ at }
     requires room { HasRoom (image_of scene.now.view.now) marks.old.room }
-    requires lists { length lists.old.items ≡ length (image_of scene.now.view.now).strings }
+    requires gathered { IsFor (image_of scene.now.view.now) scene.now.file.now gathered.old }
     requires few { length (upper (image_of scene.now.view.now) node) < 2 ^ 32 }
     ensures takes { OnOk result (TakesAll (image_of scene.now.view.now) scene.now.file.now at
-        (upper (image_of scene.now.view.now) node) (items_of lists.old.items) (items_of lists.new.items)) }
+        (upper (image_of scene.now.view.now) node) (state_of gathered.old) (state_of gathered.new)) }
     ensures count { IfOk result (λ count. count ≡ length (upper (image_of scene.now.view.now) node)) }
     ensures room { marks.new.room ≡ marks.old.room }
-    ensures lists { length lists.new.items ≡ length lists.old.items }
+    ensures gathered { OnOk result (IsFor (image_of scene.now.view.now) scene.now.file.now gathered.new) }
     ensures least_cost { IfOk result (λ count. steps.old + count ≤ steps.new) }
-    ensures most_cost { steps.new ≤ steps.old
+    ensures most_cost { steps.new + owed (image_of scene.now.view.now) (length scene.now.file.now) (state_of gathered.new)
+        ≤ steps.old + owed (image_of scene.now.view.now) (length scene.now.file.now) (state_of gathered.old)
         + costs (output_cost (image_of scene.now.view.now) (length scene.now.file.now)) (upper (image_of scene.now.view.now) node) }
 {
     if !skips.flags[node as usize] {
         return Ok(0);
     }
-    take_upper(scene, node, at, marks, lists, steps)
+    take_upper(scene, node, at, marks, gathered, steps)
 }
 
 /// Walks over the file, and takes the hits of all outputs but those of node 0.
@@ -104,22 +107,22 @@ pub(crate) fn walk<L: Ledger>(
     scene: &Scene<'_>,
     skips: &Skips,
     marks: &mut Marks,
-    lists: &mut Vec<Vec<(u32, u32)>>,
+    gathered: &mut Gathered,
     steps: &mut Steps<L>,
 ) -> Result<u64, NoMemory>
     requires scene { IsGoodScene scene.now }
     requires skips { AreSkips (image_of scene.now.view.now) skips.now }
     requires room { HasRoom (image_of scene.now.view.now) marks.old.room }
-    requires lists { length lists.old.items ≡ length (image_of scene.now.view.now).strings }
+    requires gathered { IsFor (image_of scene.now.view.now) scene.now.file.now gathered.old }
     ensures walked { IfOk result (λ count. Walked (image_of scene.now.view.now) scene.now.file.now (length scene.now.file.now)
-        (items_of lists.old.items) (items_of lists.new.items) count) }
+        (state_of gathered.old) (state_of gathered.new) count) }
     ensures small { IfOk result (λ count. count ≤ length scene.now.file.now * 1073741824) }
     ensures room { marks.new.room ≡ marks.old.room }
-    ensures lists { length lists.new.items ≡ length lists.old.items }
+    ensures gathered { OnOk result (IsFor (image_of scene.now.view.now) scene.now.file.now gathered.new) }
     ensures least_cost { IfOk result (λ count. steps.old + count ≤ steps.new) }
-    ensures most_cost { steps.new + length scene.now.file.now
+    ensures most_cost { steps.new + owed (image_of scene.now.view.now) (length scene.now.file.now) (state_of gathered.new) + length scene.now.file.now
         * costs (output_cost (image_of scene.now.view.now) (length scene.now.file.now)) (own (image_of scene.now.view.now) 0)
-        ≤ steps.old + 5 * length scene.now.file.now
+        ≤ steps.old + owed (image_of scene.now.view.now) (length scene.now.file.now) (state_of gathered.old) + 5 * length scene.now.file.now
         + length scene.now.file.now * front_cost (image_of scene.now.view.now) (length scene.now.file.now) }
 {
     let mut count = 0;
@@ -129,7 +132,7 @@ pub(crate) fn walk<L: Ledger>(
         let place = place_from(skips, scene.file, node, at);
         node = step(scene, skips, node, scene.file[place], steps);
         at = place + 1;
-        count += take_flagged(scene, skips, node, at, marks, lists, steps)?;
+        count += take_flagged(scene, skips, node, at, marks, gathered, steps)?;
     }
     Ok(count)
 }

@@ -13,7 +13,7 @@ use Rattle.yr_image.specs.Image.{Image, moves_of}
 use Rattle.yr_machine.specs.Budget.{text_length}
 use Rattle.yr_machine.specs.ImageRun.{Occurs, KnowsPrograms}
 use Rattle.yr_machine.specs.Operations.{Context}
-use Rattle.yr_search.specs.Programs.{IsProgramOf}
+use Rattle.yr_hits.specs.Programs.{IsProgramOf}
 
 there : {A : Type 0} → (xs : List A) (k : ℕ) → k < length xs → (x : A) × (slice_get xs k ≡ Some x)
 there xs k lt = elim (slice_get_cases xs k).1 [ inl h ↦ (h.0, h.2) | inr h ↦ absurd (omega (arith, lt, h.0)) ]

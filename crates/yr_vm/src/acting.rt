@@ -9,7 +9,7 @@ ghost use Rattle.yr_machine.specs.ImageRun.{KnowsPrograms};
 ghost use Rattle.yr_machine.specs.Machine.{act};
 ghost use Rattle.yr_machine.specs.Wellformed.{IsWellformed};
 ghost use Rattle.yr_machine.proofs.ShortTexts.{AreShort};
-ghost use Rattle.yr_search.specs.Programs.{HasRoom};
+ghost use Rattle.yr_hits.specs.Programs.{HasRoom};
 ghost use Rattle.yr_vm.specs.OpenLoops.{presents_shown};
 ghost use Rattle.yr_vm.specs.States.{seen, outcome_of};
 ghost use Rattle.yr_vm.specs.Taken.{AreAmong, has_short_list};

@@ -8,7 +8,7 @@ ghost use Rattle.yr_image.specs.Views.{image_of, shown_bytes};
 ghost use Rattle.yr_machine.specs.ImageRun.{KnowsPrograms, FitExternals, FitModules};
 ghost use Rattle.yr_machine.specs.Operations.{Context};
 ghost use Rattle.yr_machine.specs.Wellformed.{IsWellformed};
-ghost use Rattle.yr_search.specs.Programs.{HasRoom};
+ghost use Rattle.yr_hits.specs.Programs.{HasRoom};
 ghost use Rattle.yr_search.specs.Scratches.{IsScratchFor};
 ghost use Rattle.yr_verifier.specs.Verified.{bytes_of};
 ghost use Rattle.yr_vm.specs.Evaluation.{IsEvaluation, IsContextOf};

@@ -10,15 +10,15 @@ ghost use Rattle.yr_machine.specs.Budget.{moves_count, text_length};
 ghost use Rattle.yr_machine.specs.ImageRun.{KnowsPrograms};
 ghost use Rattle.yr_machine.specs.Operations.{Context, on_one, program_occurs};
 ghost use Rattle.yr_machine.specs.Wellformed.{IsWellformed};
-ghost use Rattle.yr_search.specs.Programs.{HasRoom};
+ghost use Rattle.yr_hits.specs.Programs.{HasRoom};
 ghost use Rattle.yr_vm.specs.Given.{given};
 
 use crate::stack::Stack;
 use std::sync::ledger::Ledger;
 use yr_base::{Steps, Value};
+use yr_hits::program;
 use yr_image::ImageView;
 use yr_moves::{Marks, occurs};
-use yr_search::program;
 
 // The text that a value is, lent or carried along.
 fn text_of<'v>(v: &'v Value<'_>) -> Option<&'v [u8]>

@@ -5,7 +5,7 @@ use Rattle.yr_answer.specs.MatchList.{Match}
 use Rattle.yr_image.specs.declared.rows.StringRow.{StringRow}
 use Rattle.yr_image.specs.Views.{image_of}
 use Rattle.yr_machine.specs.ImageMatches.{is_greatest}
-use Rattle.yr_search.specs.Gathering.{IsSettled}
+use Rattle.yr_hits.specs.Gathering.{IsSettled}
 use Rattle.yr_search.proofs.gathering.settle_all.Given as goal
 
 abbrev pub invariant-loop-k : goal.invariant-loop-k

@@ -1,7 +1,7 @@
 use Rattle.std.proofs.Common.{◌≤◌, ◌+◌, ◌*◌, length, arith}
 use Rattle.yr_image.specs.Views.{shown_bytes, image_of}
 use Rattle.yr_machine.specs.Budget.{output_cost}
-use Rattle.yr_matches.specs.Found.{items_of}
+use Rattle.yr_search.specs.State.{state_of, owed}
 use Rattle.yr_search.specs.Uppers.{own, costs}
 use Rattle.yr_search.specs.Walked.{front_cost}
 use Rattle.yr_search.proofs.NodeLemmas.{outputs_cost}
@@ -15,7 +15,7 @@ returns-in_err-root-clause-most_cost g c =
     let image = image_of c.args.scene.now.view.now in
     let n = length c.args.scene.now.file.now in
     let share = outputs_cost bytes c.requires.scene.wellformed (output_cost image n) 0 (some_nodes bytes c.requires.scene.wellformed) in
-    root_cost n (costs (output_cost image n) (own image 0)) (front_cost image n) c.args.steps.now c.take_root.new.steps c.in_err-root.ensures.most_cost (omega (arith, share))
+    root_cost n (costs (output_cost image n) (own image 0)) (front_cost image n) (c.args.steps.now + owed image n (state_of c.args.gathered.now)) (c.take_root.new.steps + owed image n (state_of c.take_root.new.gathered)) c.in_err-root.ensures.most_cost (omega (arith, share))
 
 pub returns-in_err-others-clause-most_cost : goal.returns-in_err-others-clause-most_cost
 returns-in_err-others-clause-most_cost g c =
@@ -23,7 +23,7 @@ returns-in_err-others-clause-most_cost g c =
     let image = image_of c.args.scene.now.view.now in
     let n = length c.args.scene.now.file.now in
     let share = outputs_cost bytes c.requires.scene.wellformed (output_cost image n) 0 (some_nodes bytes c.requires.scene.wellformed) in
-    all_cost n (costs (output_cost image n) (own image 0)) (front_cost image n) c.args.steps.now c.take_root.new.steps c.walk.new.steps
+    all_cost n (costs (output_cost image n) (own image 0)) (front_cost image n) (c.args.steps.now + owed image n (state_of c.args.gathered.now)) (c.take_root.new.steps + owed image n (state_of c.take_root.new.gathered)) (c.walk.new.steps + owed image n (state_of c.walk.new.gathered))
     c.in_ok-root.ensures.most_cost c.in_err-others.ensures.most_cost (omega (arith, share))
 
 pub returns-clause-most_cost : goal.returns-clause-most_cost
@@ -32,7 +32,7 @@ returns-clause-most_cost g c =
     let image = image_of c.args.scene.now.view.now in
     let n = length c.args.scene.now.file.now in
     let share = outputs_cost bytes c.requires.scene.wellformed (output_cost image n) 0 (some_nodes bytes c.requires.scene.wellformed) in
-    all_cost n (costs (output_cost image n) (own image 0)) (front_cost image n) c.args.steps.now c.take_root.new.steps c.walk.new.steps
+    all_cost n (costs (output_cost image n) (own image 0)) (front_cost image n) (c.args.steps.now + owed image n (state_of c.args.gathered.now)) (c.take_root.new.steps + owed image n (state_of c.take_root.new.gathered)) (c.walk.new.steps + owed image n (state_of c.walk.new.gathered))
     c.in_ok-root.ensures.most_cost c.in_ok-others.ensures.most_cost (omega (arith, share))
 
 pub overflow_add-result : goal.overflow_add-result
@@ -45,7 +45,7 @@ overflow_add-result g c =
 
 pub returns-clause-taken : goal.returns-clause-taken
 returns-clause-taken g c = record {
-  mid = items_of c.take_root.new.lists.items;
+  mid = state_of c.take_root.new.gathered;
   root = c.in_ok-root.ensures.takes;
   others = c.in_ok-others.others;
   walked = c.in_ok-others.ensures.walked;

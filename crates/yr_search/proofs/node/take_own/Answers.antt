@@ -2,11 +2,11 @@ use Rattle.std.proofs.Common.{◌≡◌, ◌+◌, Some, ◌∷◌, length, drop,
 use Rattle.std.specs.Prelude.{slice_get}
 use Rattle.yr_image.specs.Views.{shown_bytes, image_of}
 use Rattle.yr_machine.specs.Budget.{output_cost}
-use Rattle.yr_matches.specs.Found.{items_of}
+use Rattle.yr_search.specs.State.{state_of}
 use Rattle.yr_search.specs.Taking.{TakesAll}
 use Rattle.yr_search.specs.Uppers.{own, costs}
 use Rattle.yr_search.proofs.NodeLemmas.{own_next, own_done, own_length, own_atom, outputs_inside}
-use Rattle.yr_search.proofs.TakeLemmas.{output_is_split}
+use Rattle.yr_hits.proofs.SplitLemmas.{output_is_split}
 use Rattle.yr_search.proofs.node.take_own.Goals as goal
 
 pub node_at-row-requires : goal.node_at-row-requires
@@ -39,8 +39,8 @@ take_hit-requires-clause-atom g c =
 pub take_hit-requires-clause-room : goal.take_hit-requires-clause-room
 take_hit-requires-clause-room g c = λ k. omega (arith, c.requires.room k, c.loop-k.invariant.room)
 
-pub take_hit-requires-clause-lists : goal.take_hit-requires-clause-lists
-take_hit-requires-clause-lists g c = c.loop-k.invariant.lists ∙ c.requires.lists
+pub take_hit-requires-clause-gathered : goal.take_hit-requires-clause-gathered
+take_hit-requires-clause-gathered g c = c.loop-k.invariant.fits
 
 pub loop-k-preserved : goal.loop-k-preserved
 loop-k-preserved g c =
@@ -58,9 +58,9 @@ loop-k-preserved g c =
     let one = c.in_ok-take_hit.ensures in
     let inv = c.loop-k.invariant in
     record {
-      takes = λ new h. inv.takes new (subst (λ l. TakesAll image file c.args.at l (items_of c.loop-k.lists.items) new) (sym next) (items_of c.take_hit.new.lists.items, one.takes, h));
+      takes = λ new h. inv.takes new (subst (λ l. TakesAll image file c.args.at l (state_of c.loop-k.gathered) new) (sym next) (state_of c.take_hit.new.gathered, one.takes, h));
       room = one.room ∙ inv.room;
-      lists = one.lists ∙ inv.lists;
+      fits = one.gathered;
       least = omega (arith, inv.least, one.least_cost);
       most = omega (arith, inv.most, one.most_cost, sum);
     }
@@ -68,7 +68,7 @@ loop-k-preserved g c =
 pub loop-k-init : goal.loop-k-init
 loop-k-init g c =
     let image = image_of c.args.scene.now.view.now in
-    record { takes = λ new h. h; room = refl; lists = refl; least = omega arith; most = omega arith }
+    record { takes = λ new h. h; room = refl; fits = c.requires.gathered; least = omega arith; most = omega arith }
 
 pub returns-in_err-take_hit-clause-most_cost : goal.returns-in_err-take_hit-clause-most_cost
 returns-in_err-take_hit-clause-most_cost g c =
@@ -92,8 +92,8 @@ returns-clause-takes g c =
     let row = c.node_at-row.result in
     let at : slice_get image.nodes c.args.node ≡ Some row = subst (λ ns. slice_get ns c.args.node ≡ Some row) c.requires.scene.nodes c.node_at-row.ensures in
     let done = own_done (shown_bytes c.args.scene.now.view.now) c.requires.scene.wellformed c.args.node row c.loop-k.k at c.loop-k-test.false in
-    let lists = items_of c.loop-k.lists.items in
-    c.loop-k.invariant.takes lists (subst (λ l. TakesAll image file c.args.at l lists lists) (sym done) refl)
+    let state = state_of c.loop-k.gathered in
+    c.loop-k.invariant.takes state (subst (λ l. TakesAll image file c.args.at l state state) (sym done) refl)
 
 pub returns-clause-count : goal.returns-clause-count
 returns-clause-count g c =

@@ -2,7 +2,7 @@ use Rattle.std.proofs.Common.{◌≡◌, ◌++◌, Some, length, sym, ap, ◌∙
 use Rattle.std.specs.Prelude.{slice_get}
 use Rattle.yr_image.specs.Views.{shown_bytes, image_of}
 use Rattle.yr_machine.specs.Budget.{output_cost}
-use Rattle.yr_matches.specs.Found.{items_of}
+use Rattle.yr_search.specs.State.{state_of}
 use Rattle.yr_search.specs.Taking.{TakesAll}
 use Rattle.yr_search.specs.Uppers.{own, upper, costs}
 use Rattle.yr_search.proofs.NodeLemmas.{link_falls, next_upper, upper_at, costs_append}
@@ -50,11 +50,11 @@ rising-preserved g c =
     record {
       inside = falls.1;
       deep = omega (arith, falls.2, inv.deep);
-      takes = λ new h. inv.takes new (subst (λ l. TakesAll image file c.args.at l (items_of c.rising.lists.items) new) (sym next)
-          (takes_then image file c.args.at (own image up) (upper image row.failure) (items_of c.rising.lists.items) (items_of c.take_own.new.lists.items) new one.takes h));
+      takes = λ new h. inv.takes new (subst (λ l. TakesAll image file c.args.at l (state_of c.rising.gathered) new) (sym next)
+          (takes_then image file c.args.at (own image up) (upper image row.failure) (state_of c.rising.gathered) (state_of c.take_own.new.gathered) new one.takes h));
       count = omega (arith, inv.count, size, one.count);
       room = one.room ∙ inv.room;
-      lists = one.lists ∙ inv.lists;
+      fits = one.gathered;
       least = omega (arith, inv.least, one.least_cost);
       most = omega (arith, inv.most, one.most_cost, sum);
     }

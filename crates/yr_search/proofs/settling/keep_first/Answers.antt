@@ -1,6 +1,6 @@
 use Rattle.std.proofs.Common.{rules}
 use Rattle.std.proofs.lemmas.Fn.{dedup_same}
-use Rattle.yr_search.specs.Gathering.{has_same_offset}
+use Rattle.yr_hits.specs.Gathering.{has_same_offset}
 use Rattle.yr_search.proofs.settling.keep_first.Goals as goal
 
 pub returns : goal.returns

@@ -1,6 +1,6 @@
 use Rattle.std.proofs.Common.{IsTrue, sym, subst, rules}
 use Rattle.yr_answer.specs.MatchList.{RisesFrom}
-use Rattle.yr_search.specs.Gathering.{IsSettled}
+use Rattle.yr_hits.specs.Gathering.{IsSettled}
 use Rattle.yr_search.proofs.SettleLemmas.{settled_by, settled_already}
 use Rattle.yr_search.proofs.settling.settle.Goals as goal
 

@@ -1,7 +1,7 @@
 use Rattle.std.proofs.Common.{true, false, sym, subst, rules, Bool}
 use Rattle.std.specs.List.Sorted.{IsNonDecreasingBy}
 use Rattle.std.proofs.lemmas.List.Sorted.{IsNonDecreasingBy-from_sort_by_key}
-use Rattle.yr_search.specs.Gathering.{order_of}
+use Rattle.yr_hits.specs.Gathering.{order_of}
 use Rattle.yr_search.proofs.settling.sort.Goals as goal
 
 pub returns-then-greatest-clause-sorted : goal.returns-then-greatest-clause-sorted

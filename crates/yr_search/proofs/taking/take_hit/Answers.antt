@@ -1,26 +1,49 @@
-use Rattle.std.proofs.Common.{length, refl, sym, ap, subst, arith}
-use Rattle.std.proofs.lemmas.Option.{slice_get_read}
-use Rattle.yr_image.specs.Views.{shown_bytes, image_of}
-use Rattle.yr_search.specs.Programs.{HasRoom}
-use Rattle.yr_search.proofs.SideLemmas.{good_fields}
-use Rattle.yr_search.proofs.GrowLemmas.{on_ok}
-use Rattle.yr_search.proofs.TakeLemmas.{split_is_good, takes_of}
+use Rattle.std.proofs.Common.{inl, inr, length, sym, ap, ◌∙◌, subst, arith}
+use Rattle.yr_image.specs.Views.{image_of}
+use Rattle.yr_hits.proofs.GrowLemmas.{on_ok}
+use Rattle.yr_search.specs.State.{state_of, hits_in, AreInFile, IsFor, owed_by, cost_later}
+use Rattle.yr_search.proofs.StateLemmas.{cost_some}
+use Rattle.yr_search.proofs.TakeLemmas.{fits_more, owed_either}
 use Rattle.yr_search.proofs.taking.take_hit.Goals as goal
 
-pub add_matches-requires-clause-room : goal.add_matches-requires-clause-room
-add_matches-requires-clause-room g c =
-    subst (λ v. HasRoom (image_of v) c.args.marks.now.room) (sym c.hit_of-hit.ensures.view) c.requires.room
+pub returns-then-is_dear-clause-takes : goal.returns-then-is_dear-clause-takes
+returns-then-is_dear-clause-takes g c = on_ok c.leave.result (λ t. inr t) c.leave.ensures.leaves
+
+pub returns-then-is_dear-clause-gathered : goal.returns-then-is_dear-clause-gathered
+returns-then-is_dear-clause-gathered g c =
+    on_ok c.leave.result
+    (fits_more (image_of c.args.scene.now.view.now) c.args.scene.now.file.now c.args.at c.args.split c.args.gathered.now c.leave.new.gathered
+    c.requires.gathered c.requires.at c.requires.atom c.leave.ensures.lists c.leave.ensures.spent)
+    c.leave.ensures.leaves
+
+pub returns-then-is_dear-clause-most_cost : goal.returns-then-is_dear-clause-most_cost
+returns-then-is_dear-clause-most_cost g c =
+    let image = image_of c.args.scene.now.view.now in
+    let n = length c.args.scene.now.file.now in
+    let owes = owed_either image n c.args.at c.args.split (state_of c.args.gathered.now) (state_of c.leave.new.gathered) c.leave.result c.leave.ensures.leaves c.leave.ensures.kept in
+    let some = cost_some image n c.args.split c.requires.split in
+    omega (arith, owes, some)
 
 pub returns-clause-takes : goal.returns-clause-takes
-returns-clause-takes g c =
-    let view = c.args.scene.now.view.now in
-    let hit = c.hit_of-hit.result in
-    let e = c.hit_of-hit.ensures in
-    let list = c.index_mut-list.result.now in
-    let good = split_is_good (shown_bytes view) c.args.split hit.row c.requires.scene.wellformed e.row in
-    let string = (good_fields (image_of view) good.0 hit.row good.1).string in
-    on_ok c.add_matches.result
-    (takes_of (image_of view) c.args.scene.now.file.now c.args.at c.args.split hit e.good (ap image_of e.view) e.file e.at e.row e.greatest
-    c.args.lists.now.items c.requires.lists string list c.add_matches.new.list
-    (slice_get_read c.args.lists.now.items (length c.args.lists.now.items) hit.row.string list refl (omega (arith, string, c.requires.lists)) c.index_mut-list.ensures.value))
-    c.add_matches.ensures.grows
+returns-clause-takes g c = on_ok c.take_now.result (λ t. inl t) c.take_now.ensures.takes
+
+pub returns-clause-gathered : goal.returns-clause-gathered
+returns-clause-gathered g c =
+    let image = image_of c.args.scene.now.view.now in
+    let file = c.args.scene.now.file.now in
+    let after = c.take_now.ensures in
+    let before = c.requires.gathered in
+    let fits : IsFor image file c.take_now.new.gathered = record {
+      lists = after.lists ∙ before.lists;
+      later = ap (λ l. length l.items) after.later ∙ before.later;
+      spent = after.spent ∙ before.spent;
+      inside = subst (λ l. AreInFile image file (hits_in l.items)) (sym after.later) before.inside;
+    } in
+    on_ok c.take_now.result (λ t. fits) after.takes
+
+pub returns-clause-most_cost : goal.returns-clause-most_cost
+returns-clause-most_cost g c =
+    let image = image_of c.args.scene.now.view.now in
+    let n = length c.args.scene.now.file.now in
+    let owes = ap (λ l. owed_by (cost_later image n) 0 (hits_in l.items)) c.take_now.ensures.later in
+    omega (arith, owes, c.take_now.ensures.most_cost)

@@ -2,7 +2,7 @@ use Rattle.std.proofs.Common.{◌≡◌, ◌≤◌, ◌+◌, ◌*◌, [], length
 use Rattle.std.proofs.lemmas.List.{nil_from_length}
 use Rattle.yr_image.specs.Views.{shown_bytes, image_of}
 use Rattle.yr_machine.specs.Budget.{output_cost}
-use Rattle.yr_matches.specs.Found.{items_of}
+use Rattle.yr_search.specs.State.{state_of}
 use Rattle.yr_search.specs.Taking.{TakesFronts}
 use Rattle.yr_search.specs.Uppers.{own, costs}
 use Rattle.yr_search.proofs.NodeLemmas.{own_length}
@@ -19,7 +19,7 @@ returns-then-node_at-eq0-clause-takes g c =
     let row = scene_node c.args.scene.now c.requires.scene 0 c.node_at.result c.node_at.ensures in
     let size = own_length (shown_bytes c.args.scene.now.view.now) c.requires.scene.wellformed 0 c.node_at.result row in
     let none : own image 0 ≡ [] = nil_from_length (own image 0) (omega (arith, size, c.if-node_at-eq0.true)) in
-    nothing_taken image c.args.scene.now.file.now 0 (length c.args.scene.now.file.now + 1) (own image 0) (items_of c.args.lists.now.items) none
+    nothing_taken image c.args.scene.now.file.now 0 (length c.args.scene.now.file.now + 1) (own image 0) (state_of c.args.gathered.now) none
 
 pub returns-then-node_at-eq0-clause-count : goal.returns-then-node_at-eq0-clause-count
 returns-then-node_at-eq0-clause-count g c =
@@ -61,10 +61,10 @@ loop-at-preserved g c =
     let one = c.in_ok-count.ensures in
     let next = repeated_next (n + 1) at (own image 0) c.loop-at-test.true in
     record {
-      takes = λ new h. inv.takes new (subst (λ l. TakesFronts image file at l (items_of c.loop-at.lists.items) new) (sym next) (items_of c.take_own.new.lists.items, one.takes, h));
+      takes = λ new h. inv.takes new (subst (λ l. TakesFronts image file at l (state_of c.loop-at.gathered) new) (sym next) (state_of c.take_own.new.gathered, one.takes, h));
       count = let more = times_more at (length (own image 0)) in omega (arith, inv.count, one.count, more);
       room = one.room ∙ inv.room;
-      lists = one.lists ∙ inv.lists;
+      fits = one.gathered;
       least = omega (arith, inv.least, one.least_cost);
       most = let more = times_more at (costs (output_cost image n) (own image 0)) in omega (arith, inv.most, one.most_cost, more);
     }
@@ -74,8 +74,8 @@ returns-clause-takes g c =
     let image = image_of c.args.scene.now.view.now in
     let file = c.args.scene.now.file.now in
     let done = repeated_done (length file + 1) c.loop-at.at (own image 0) c.loop-at-test.false in
-    let lists = items_of c.loop-at.lists.items in
-    c.loop-at.invariant.takes lists (subst (λ l. TakesFronts image file c.loop-at.at l lists lists) (sym done) refl)
+    let state = state_of c.loop-at.gathered in
+    c.loop-at.invariant.takes state (subst (λ l. TakesFronts image file c.loop-at.at l state state) (sym done) refl)
 
 pub returns-clause-count : goal.returns-clause-count
 returns-clause-count g c =

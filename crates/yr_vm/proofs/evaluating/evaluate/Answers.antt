@@ -5,7 +5,7 @@ use Rattle.yr_image.specs.Reading.{image_in}
 use Rattle.yr_image.specs.Views.{image_of}
 use Rattle.yr_machine.specs.ImageRun.{KnowsPrograms}
 use Rattle.yr_machine.specs.Operations.{Context}
-use Rattle.yr_search.specs.Programs.{HasRoom}
+use Rattle.yr_hits.specs.Programs.{HasRoom}
 use Rattle.yr_verifier.specs.Verified.{bytes_of}
 use Rattle.yr_vm.specs.Evaluation.{IsEvaluation}
 use Rattle.yr_vm.specs.Worlds.{context_of}

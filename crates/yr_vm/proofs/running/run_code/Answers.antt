@@ -11,7 +11,7 @@ use Rattle.yr_machine.specs.Machine.{Machine, OpenLoop, going, done, step, start
 use Rattle.yr_machine.specs.Counts.{NotStuck}
 use Rattle.yr_machine.proofs.RunLemmas.{Lives, lives_first, lives_goes, lives_next, lives_end}
 use Rattle.yr_machine.proofs.ShortTexts.{AreShort, step-short, text-bounds}
-use Rattle.yr_search.specs.Programs.{HasRoom}
+use Rattle.yr_hits.specs.Programs.{HasRoom}
 use Rattle.yr_vm.specs.OpenLoops.{loops_shown}
 use Rattle.yr_vm.specs.Running.{longest_text}
 use Rattle.yr_vm.specs.States.{seen, outcome_of}
