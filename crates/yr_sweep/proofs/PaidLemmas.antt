@@ -2,12 +2,12 @@
 use Rattle.std.proofs.Common.{◌≡◌, ◌≢◌, ℕ, ◌+◌, ◌-◌, ◌*◌, ◌<◌, ◌≤◌, ◌==◌, Bool, true, false, nat_lt, refl, sym, ap, ◌∙◌, subst, arith}
 use Rattle.std.specs.Prelude.{if◌then◌else◌}
 use Rattle.std.proofs.lemmas.Bool.{ltb-true}
-use Rattle.std.proofs.Math.Nat.{mul-add, mul-le-mul_left}
+use Rattle.std.proofs.Math.Nat.{mul_comm, mul-add, mul-le-mul_left}
 use Rattle.yr_sweep.specs.Sweeps.{IsPaid}
 
 module _ (each top per count : ℕ) where
-  pub paid_start : (place before : ℕ) → place ≡ top → IsPaid each top per count place count before before
-  paid_start place before is = let same : each * place ≡ each * top = ap (λ k. each * k) is in omega (arith, same)
+  pub paid_start : (place before : ℕ) → place ≤ top → IsPaid each top per count place count before before
+  paid_start place before le = let less = mul-le-mul_left each le in omega (arith, less)
 
   -- one place down, and so many hits
   pub paid_more : (old new left below before now after : ℕ) → IsPaid each top per count old left before now → old ≡ new + 1 → below ≤ left
@@ -54,4 +54,5 @@ module _ (cost count : ℕ) where
   pub each_done : (k before now : ℕ) → PaidEach cost count k before now → 1 ≤ cost → now + count ≤ before + cost * count
   each_done k before now paid some =
       let product = mul-le-mul_left k some in
-      omega (arith, paid, product)
+      let turned = mul_comm cost k in
+      omega (arith, paid, product, turned)

@@ -1,7 +1,7 @@
 -- The spans that the walk over two programs counts are those of the hits.
-use Rattle.std.proofs.Common.{◌≡◌, ℕ, zero, suc, ◌+◌, ◌-◌, ◌<◌, ◌≤◌, ◌⊎◌, inl, inr, ◌↔◌, Bool, true, false, List, [], ◌∷◌, length, Contains, Option, Some, None, IfSome, refl, sym, ap, ◌∙◌, subst, arith}
+use Rattle.std.proofs.Common.{◌≡◌, ℕ, zero, suc, ◌+◌, ◌-◌, ◌<◌, ◌≤◌, ◌⊎◌, inl, inr, ◌↔◌, Bool, true, false, nat_lt, List, [], ◌∷◌, length, Contains, Option, Some, None, IfSome, refl, sym, ap, ◌∙◌, subst, arith}
 use Rattle.std.specs.Prelude.{slice_get, if◌then◌else◌}
-use Rattle.std.proofs.lemmas.Bool.{cases_lt}
+use Rattle.std.proofs.lemmas.Bool.{cases_lt, lt-ltb, ltb-true}
 use Rattle.yr_rows.specs.Accepts.{Accepts, AcceptsBackwards}
 use Rattle.yr_moves.specs.declared.rows.ProgramRows.{ProgramRows}
 use Rattle.yr_moves.specs.Programs.{moves_of, sets_of}
@@ -18,8 +18,9 @@ use Rattle.yr_hits.proofs.SideLemmas.{leads_by, program_is, best_as}
 use Rattle.yr_hits.proofs.HitLemmas.{fields, program_there, accepts_rows, leads_up, starts_down}
 use Rattle.yr_hits.proofs.StartLemmas.{program_starts}
 use Rattle.yr_hits.proofs.SplitLemmas.{span_of}
-use Rattle.yr_sweep.specs.Sweeps.{hit_after, IsInside, AreHits, SpansOf, SpansOfAll}
+use Rattle.yr_sweep.specs.Sweeps.{hit_after, IsInside, IsCountBelow, AreHits, SpansOf, SpansOfAll}
 use Rattle.yr_sweep.specs.Walks.{IsSpanWalkOf, AreAtoms}
+use Rattle.yr_sweep.proofs.OrderLemmas.{is_there, is_counted}
 use Rattle.yr_sweep.proofs.SweepLemmas.{good_after}
 use Rattle.yr_sweep.proofs.PlaceLemmas.{span_in, span_out}
 use Rattle.yr_sweep.proofs.EndLemmas.{end_walk}
@@ -92,14 +93,26 @@ span_walk_on hit walk new end place e s a of =
 
 -- ---- one place down
 
-module _ (hit : Hit) (good : IsGoodHit hit) (hits : List ℕ) (are : AreHits hit hits) (place next : ℕ) (is : next ≡ place + 1) where
+-- nothing was told yet
+pub none_among : (hit : Hit) (hits : List ℕ) (place : ℕ) → AreHits hit hits → length hit.file.now < place + hit.row.atom_length → AreAtoms hit hits [] place
+none_among hit hits place are past = record {
+  into = λ a h. let get = h.1 in cc;
+  back = λ a h le. let inside = are (a + hit.row.atom_length) h in absurd (omega (arith, inside.0, le, past));
+}
+
+-- a place among one more
+among_more : (place a : ℕ) (atoms : List ℕ) → spans.IsAmong (place ∷ atoms) a → (place ≡ a) ⊎ spans.IsAmong atoms a
+among_more place a atoms (zero, get) = inl cc
+among_more place a atoms (suc q, get) = inr (q, get)
+
+module _ (hit : Hit) (hits : List ℕ) (place next : ℕ) (is : next ≡ place + 1) where
   pub atoms_more : (there : Bool) (atoms : List ℕ) → (there ≡ true → Contains hits (place + hit.row.atom_length))
       → (Contains hits (place + hit.row.atom_length) → there ≡ true) → AreAtoms hit hits atoms next
       → AreAtoms hit hits (if there then place ∷ atoms else atoms) place
   atoms_more true atoms into back old = record {
-    into = λ a among. elim among [
-      | (zero, get) ↦ let same : place ≡ a = cc in (subst (λ a. Contains hits (a + hit.row.atom_length)) same (into refl), omega (arith, same))
-      | (suc q, get) ↦ let more = old.into a (q, get) in (more.0, omega (arith, more.1, is))
+    into = λ a among. elim (among_more place a atoms among) [
+      | inl same ↦ (subst (λ a. Contains hits (a + hit.row.atom_length)) same (into refl), omega (arith, same))
+      | inr later ↦ let more = old.into a later in (more.0, omega (arith, more.1, is))
     ];
     back = λ a there le. elim (cases_lt place a) [
       | inl lt ↦ let more = old.back a there (omega (arith, lt, is)) in (suc more.0, more.1)
@@ -116,6 +129,7 @@ module _ (hit : Hit) (good : IsGoodHit hit) (hits : List ℕ) (are : AreHits hit
     ];
   }
 
+module _ (hit : Hit) (good : IsGoodHit hit) (hits : List ℕ) (are : AreHits hit hits) (place next : ℕ) (is : next ≡ place + 1) where
   pub counted_spans : (walk : spans.Walk) (atoms : List ℕ) → IsSpanWalkOf hit walk → AreAtoms hit hits atoms place → (found : Option ℕ)
       → IsBestOf walk.ends.greedy (spans.IsCounted walk atoms place) found → IsBestOf hit.greatest (SpansOfAll hit hits place) found
   counted_spans walk atoms of atoms_are found best =
@@ -136,3 +150,13 @@ module _ (hit : Hit) (good : IsGoodHit hit) (hits : List ℕ) (are : AreHits hit
           let there : Contains hits (a + hit.row.atom_length) = subst (Contains hits) whole s.1 in
           let span = subst (λ e. SpansOf hit e place j) whole s.2 in
           (a, atoms_are.back a there (omega (arith, down)), (of.counts a place j (are (a + hit.row.atom_length) there)).1 span)
+
+-- by the counts below the place and the next
+pub atoms_here : (hit : Hit) (hits : List ℕ) (at place next count below : ℕ) → next ≡ place + 1 → at ≡ place + hit.row.atom_length → IsCountBelow hits (at + 1) count
+    → IsCountBelow hits at below → (atoms : List ℕ) → AreAtoms hit hits atoms next
+    → AreAtoms hit hits (if (nat_lt below count) then place ∷ atoms else atoms) place
+atoms_here hit hits at place next count below down is above here atoms old =
+    atoms_more hit hits place next down (nat_lt below count) atoms
+    (λ t. subst (Contains hits) is (is_there hits at count below above here (ltb-true below count t)))
+    (λ h. lt-ltb below count (is_counted hits at count below above here (subst (Contains hits) (sym is) h)))
+    old

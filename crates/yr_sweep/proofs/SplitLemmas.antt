@@ -79,5 +79,5 @@ pub cost_as : (image : Image) (size split : ℕ) (row : SplitRow) (count before 
     → now + count ≤ before + hit_cost image size row * count → now + count ≤ before + count * output_cost image size split
 cost_as image size split row count before now at paid =
     let whole : count * output_cost image size split ≡ hit_cost image size row * count =
-      ap (λ n. count * n) (cost_of image size split row at) ∙ mul_comm count (hit_cost image size row) in
+    ap (λ n. count * n) (cost_of image size split row at) ∙ mul_comm count (hit_cost image size row) in
     omega (arith, paid, whole)

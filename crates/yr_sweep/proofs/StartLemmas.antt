@@ -1,7 +1,7 @@
 -- The ends that are told where atoms begin, and what the walk over starts answers.
-use Rattle.std.proofs.Common.{◌≡◌, ℕ, zero, suc, ◌+◌, ◌-◌, ◌<◌, ◌≤◌, ◌⊎◌, inl, inr, ◌↔◌, Bool, true, false, MatchBool, List, [], ◌∷◌, length, Contains, Option, Some, None, refl, sym, ap, ◌∙◌, subst, arith}
+use Rattle.std.proofs.Common.{◌≡◌, ℕ, zero, suc, ◌+◌, ◌-◌, ◌<◌, ◌≤◌, ◌⊎◌, inl, inr, ◌↔◌, Bool, true, false, MatchBool, nat_lt, List, [], ◌∷◌, length, Contains, Option, Some, None, refl, sym, ap, ◌∙◌, subst, arith}
 use Rattle.std.specs.Prelude.{slice_get, if◌then◌else◌}
-use Rattle.std.proofs.lemmas.Bool.{cases_lt}
+use Rattle.std.proofs.lemmas.Bool.{cases_lt, lt-ltb, ltb-true}
 use Rattle.yr_base.specs.Places.{has_left_border}
 use Rattle.yr_rows.specs.Accepts.{AcceptsBackwards}
 use Rattle.yr_answer.specs.MatchList.{IsBest}
@@ -18,8 +18,9 @@ use Rattle.yr_hits.specs.Spans.{begin_of, IsGoodHit, StartsAt, EndsAt, IsBestOf,
 use Rattle.yr_hits.proofs.SideLemmas.{best_as}
 use Rattle.yr_hits.proofs.HitLemmas.{leads_up, starts_down}
 use Rattle.yr_hits.proofs.StartLemmas.{program_starts}
-use Rattle.yr_sweep.specs.Sweeps.{hit_after, IsInside, AreHits, SpansOf, SpansOfAll}
-use Rattle.yr_sweep.specs.Walks.{AreTold, IsStartWalkOf, WereTold, IsMidStarts}
+use Rattle.yr_sweep.specs.Sweeps.{hit_after, IsInside, IsCountBelow, AreHits, SpansOf, SpansOfAll}
+use Rattle.yr_sweep.specs.Walks.{AreTold, IsStartWalkOf, WereTold, IsToldHere, IsMidStarts}
+use Rattle.yr_sweep.proofs.OrderLemmas.{is_there, is_counted}
 use Rattle.yr_sweep.proofs.SweepLemmas.{good_after}
 use Rattle.yr_sweep.proofs.PlaceLemmas.{best_by, span_in, span_out}
 
@@ -86,20 +87,40 @@ far_near hit good ends told j is = at ends.near told.near
     at None none = absurd (none j there)
     at (Some o) best = (o, refl)
 
+-- by the counts below the place and the next
+pub told_here : (hit : Hit) (hits : List ℕ) (at place count below : ℕ) (ends : Ends) → at ≡ place + hit.row.atom_length → IsCountBelow hits (at + 1) count
+    → IsCountBelow hits at below → (nat_lt below count ≡ true → AreTold (hit_after hit at) ends)
+    → (nat_lt below count ≡ false → (ends.near ≡ None) × (ends.far ≡ None)) → IsToldHere hit hits place (nat_lt below count) ends
+told_here hit hits at place count below ends is next here told nothing = record {
+  into = λ t. subst (Contains hits) is (is_there hits at count below next here (ltb-true below count t));
+  back = λ h. lt-ltb below count (is_counted hits at count below next here (subst (Contains hits) (sym is) h));
+  told = λ t. subst (λ e. AreTold (hit_after hit e) ends) is (told t);
+  nothing = nothing;
+}
+
+-- nothing was told yet
+pub none_told : (hit : Hit) (hits : List ℕ) (place : ℕ) → AreHits hit hits → length hit.file.now < place + hit.row.atom_length → WereTold hit hits [] place
+none_told hit hits place are past = record { sound = sound; complete = complete }
+  where
+    sound : (a j : ℕ) → Tells [] a j
+        → Contains hits (a + hit.row.atom_length) × IsBest hit.greatest (EndsAt (hit_after hit (a + hit.row.atom_length))) j
+    sound a j (q, t, get, at, near) = absurd cc
+
+    complete : (a j : ℕ) → Contains hits (a + hit.row.atom_length) → place ≤ a → EndsAt (hit_after hit (a + hit.row.atom_length)) j → (o : ℕ) × Tells [] a o
+    complete a j h le end = let inside = are (a + hit.row.atom_length) h in absurd (omega (arith, inside.0, le, past))
+
 module _ (hit : Hit) (good : IsGoodHit hit) (hits : List ℕ) (are : AreHits hit hits) (place : ℕ) (there : Bool) (ends : Ends)
-    (into : there ≡ true → Contains hits (place + hit.row.atom_length)) (back : Contains hits (place + hit.row.atom_length) → there ≡ true)
-    (told_of : there ≡ true → AreTold (hit_after hit (place + hit.row.atom_length)) ends)
-    (nothing : there ≡ false → (ends.near ≡ None) × (ends.far ≡ None)) where
+    (here : IsToldHere hit hits place there ends) where
   -- where an end is told, there is a hit
   near_there : (j : ℕ) → ends.near ≡ Some j → there ≡ true
-  near_there j is = at there nothing
+  near_there j is = at there here.nothing
     where
       at : (b : Bool) → (b ≡ false → (ends.near ≡ None) × (ends.far ≡ None)) → b ≡ true
       at true none = refl
       at false none = let gone = (none refl).0 in cc
 
   far_there : (j : ℕ) → ends.far ≡ Some j → there ≡ true
-  far_there j is = at there nothing
+  far_there j is = at there here.nothing
     where
       at : (b : Bool) → (b ≡ false → (ends.near ≡ None) × (ends.far ≡ None)) → b ≡ true
       at true none = refl
@@ -108,10 +129,10 @@ module _ (hit : Hit) (good : IsGoodHit hit) (hits : List ℕ) (are : AreHits hit
   pub far_needs : (j : ℕ) → ends.far ≡ Some j → (o : ℕ) × (ends.near ≡ Some o)
   far_needs j is =
       let t = far_there j is in
-      far_near (hit_after hit (place + hit.row.atom_length)) (good_after hit good (place + hit.row.atom_length) (are (place + hit.row.atom_length) (into t))) ends (told_of t) j is
+      far_near (hit_after hit (place + hit.row.atom_length)) (good_after hit good (place + hit.row.atom_length) (are (place + hit.row.atom_length) (here.into t))) ends (here.told t) j is
 
   near_best : (j : ℕ) → ends.near ≡ Some j → IsBest hit.greatest (EndsAt (hit_after hit (place + hit.row.atom_length))) j
-  near_best j is = subst (λ o. IsBestOf hit.greatest (EndsAt (hit_after hit (place + hit.row.atom_length))) o) is (told_of (near_there j is)).near
+  near_best j is = subst (λ o. IsBestOf hit.greatest (EndsAt (hit_after hit (place + hit.row.atom_length))) o) is (here.told (near_there j is)).near
 
   -- what was told, with what is told here
   pub told_more : (told : List Told) (next : ℕ) → next ≡ place + 1 → WereTold hit hits told next
@@ -122,9 +143,9 @@ module _ (hit : Hit) (good : IsGoodHit hit) (hits : List ℕ) (are : AreHits hit
           → Contains hits (a + hit.row.atom_length) × IsBest hit.greatest (EndsAt (hit_after hit (a + hit.row.atom_length))) j
       sound a j (zero, t, get, at, near) =
           let same : record { at = place; near = ends.near; far = ends.far } ≡ t = cc in
-          let here : place ≡ a = ap (λ (t : Told). t.at) same ∙ at in
+          let same_place : place ≡ a = ap (λ (t : Told). t.at) same ∙ at in
           let is : ends.near ≡ Some j = ap (λ (t : Told). t.near) same ∙ near in
-          subst (λ a. Contains hits (a + hit.row.atom_length) × IsBest hit.greatest (EndsAt (hit_after hit (a + hit.row.atom_length))) j) here (into (near_there j is), near_best j is)
+          subst (λ a. Contains hits (a + hit.row.atom_length) × IsBest hit.greatest (EndsAt (hit_after hit (a + hit.row.atom_length))) j) same_place (here.into (near_there j is), near_best j is)
       sound a j (suc q, t, get, at, near) = were.sound a j (q, t, get, at, near)
 
       complete : (a j : ℕ) → Contains hits (a + hit.row.atom_length) → place ≤ a → EndsAt (hit_after hit (a + hit.row.atom_length)) j
@@ -132,11 +153,11 @@ module _ (hit : Hit) (good : IsGoodHit hit) (hits : List ℕ) (are : AreHits hit
       complete a j hit_there le end = elim (cases_lt place a) [
         | inl lt ↦ let old = were.complete a j hit_there (omega (arith, lt, is)) end in (old.0, (suc old.1.0, old.1.1, old.1.2, old.1.3, old.1.4))
         | inr past ↦
-            let here : a ≡ place = omega (arith, le, past) in
-            let ends_here = subst (λ a. EndsAt (hit_after hit (a + hit.row.atom_length)) j) here end in
-            let best = (told_of (back (subst (λ a. Contains hits (a + hit.row.atom_length)) here hit_there))).near in
+            let same : a ≡ place = omega (arith, le, past) in
+            let ends_here = subst (λ a. EndsAt (hit_after hit (a + hit.row.atom_length)) j) same end in
+            let best = (here.told (here.back (subst (λ a. Contains hits (a + hit.row.atom_length)) same hit_there))).near in
             let o = some_end ends.near best j ends_here in
-            (o.0, (0, record { at = place; near = ends.near; far = ends.far }, refl, sym here, o.1))
+            (o.0, (0, record { at = place; near = ends.near; far = ends.far }, refl, sym same, o.1))
       ]
         where
           some_end : (near : Option ℕ) → IsBestOf hit.greatest (EndsAt (hit_after hit (place + hit.row.atom_length))) near → (j : ℕ)
@@ -159,15 +180,15 @@ module _ (hit : Hit) (good : IsGoodHit hit) (hits : List ℕ) (are : AreHits hit
         let end = of_told.1.0 in
         let up = (leads_up (hit_after hit e) (good_after hit good e inside) j end.0).0 in
         (e, of_told.0, span_out hit good hits are e place j of_told.0 (starts_there, border, end, omega (arith, up, reach.2)))
-    start_sound j (inr here) =
+    start_sound j (inr told_far) =
         let e = place + hit.row.atom_length in
-        let t = far_there j here.0 in
-        let inside = are e (into t) in
-        let accepts : AcceptsBackwards walk.moves walk.sets walk.file place place = (here.1, here.2, here.3, here.4) in
+        let t = far_there j told_far.0 in
+        let inside = are e (here.into t) in
+        let accepts : AcceptsBackwards walk.moves walk.sets walk.file place place = (told_far.1, told_far.2, told_far.3, told_far.4) in
         let starts_there = (of.reads place place inside).1 accepts in
         let B : Option ℕ → Type 0 = λ o. IsBestOf hit.greatest (λ j. EndsAt (hit_after hit e) j × (begin_of (hit_after hit e) < j)) o in
-        let best : B (Some j) = subst B here.0 (told_of t).far in
-        (e, into t, span_out hit good hits are e place j (into t) (starts_there, border, best.0.0, omega (arith, best.0.1)))
+        let best : B (Some j) = subst B told_far.0 (here.told t).far in
+        (e, here.into t, span_out hit good hits are e place j (here.into t) (starts_there, border, best.0.0, omega (arith, best.0.1)))
 
     -- one of its answers does for each span
     start_does : (j : ℕ) → SpansOfAll hit hits place j → (o : ℕ) × starts.StartsAt walk told ends.far place o × DoesFor hit.greatest o j
@@ -186,11 +207,11 @@ module _ (hit : Hit) (good : IsGoodHit hit) (hits : List ℕ) (are : AreHits hit
               let best = (were.sound a old.0 old.1).1 in
               (old.0, inl (accepts.1, (a, accepts.0, lt, old.1, accepts.2), accepts.3), best.1 j span.2)
           | inr le ↦
-              let here : a ≡ place = omega (arith, le, down) in
-              let e_here : Contains hits (place + hit.row.atom_length) = subst (λ a. Contains hits (a + hit.row.atom_length)) here there_a in
-              let ends_here = subst (λ a. EndsAt (hit_after hit (a + hit.row.atom_length)) j) here span.2 in
-              let runs = subst (λ a. AcceptsBackwards walk.moves walk.sets walk.file place a) here accepts in
-              let o = best_far ends.far (told_of (back e_here)).far j ends_here (omega (arith, span.3)) in
+              let same : a ≡ place = omega (arith, le, down) in
+              let e_here : Contains hits (place + hit.row.atom_length) = subst (λ a. Contains hits (a + hit.row.atom_length)) same there_a in
+              let ends_here = subst (λ a. EndsAt (hit_after hit (a + hit.row.atom_length)) j) same span.2 in
+              let runs = subst (λ a. AcceptsBackwards walk.moves walk.sets walk.file place a) same accepts in
+              let o = best_far ends.far (here.told (here.back e_here)).far j ends_here (omega (arith, span.3)) in
               (o.0, inr (o.1, runs.0, runs.1, runs.2, runs.3), o.2)
         ]
       where

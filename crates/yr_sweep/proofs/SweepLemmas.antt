@@ -1,5 +1,5 @@
 -- Lists that grow by the spans of hits of one split.
-use Rattle.std.proofs.Common.{◌≡◌, ℕ, ◌+◌, ◌-◌, ◌*◌, ◌<◌, ◌≤◌, ◌⊎◌, inl, inr, ◌↔◌, Bool, true, false, List, [], ◌∷◌, ◌++◌, length, Contains, Option, Some, None, refl, sym, ap, ◌∙◌, subst, arith}
+use Rattle.std.proofs.Common.{◌≡◌, ℕ, ◌+◌, ◌-◌, ◌*◌, ◌<◌, ◌≤◌, ◌⊎◌, inl, inr, ◌↔◌, Bool, true, false, List, [], ◌∷◌, ◌++◌, length, Contains, Option, Some, None, true≢false, refl, sym, ap, ◌∙◌, subst, arith}
 use Rattle.std.specs.Prelude.{slice_index}
 use Rattle.std.proofs.lemmas.Bool.{cases_lt}
 use Rattle.yr_answer.specs.MatchList.{Match}
@@ -55,6 +55,12 @@ module _ (hit : Hit) (hits : List ℕ) where
       (λ i j s. let at = place_of hits s.0 s.1 in (at.0, omega (arith, none), at.1, subst (λ e. SpansOf hit e i j) (sym at.2) s.2))
 
   -- ---- hits by their places, from the last down
+
+  pub if_there : (there : Bool) (e : ℕ) (a b : List Match) → there ≡ true → Grows (SpansOf hit e) hit.greatest a b → Grows (SpansIf there hit e) hit.greatest a b
+  if_there there e a b is g = grows_as hit.greatest (SpansOf hit e) (SpansIf there hit e) a b g (λ i j s. (is, s)) (λ i j s. s.1)
+
+  pub if_not : (there : Bool) (e : ℕ) (list : List Match) → there ≡ false → Grows (SpansIf there hit e) hit.greatest list list
+  if_not there e list is = grows_none hit.greatest (SpansIf there hit e) list (λ i j s. true≢false (sym s.0 ∙ is))
 
   pub later_none : (list : List Match) (place : ℕ) → AreHits hit hits → length hit.file.now < place → Grows (SpansOfLater hit hits place) hit.greatest list list
   later_none list place are past =

@@ -1,5 +1,5 @@
 -- What walks over a file find of the hits of one split.
-use Rattle.std.specs.Prelude.{◌≡◌, ℕ, ◌+◌, ◌-◌, ◌<◌, ◌≤◌, ◌↔◌, Bool, true, List, [], ◌∷◌, ◌++◌, length, Contains, Option, None, Some}
+use Rattle.std.specs.Prelude.{◌≡◌, ℕ, ◌+◌, ◌-◌, ◌<◌, ◌≤◌, ◌↔◌, Bool, true, false, List, [], ◌∷◌, ◌++◌, length, Contains, Option, None, Some}
 use Rattle.yr_rows.specs.Accepts.{AcceptsBackwards}
 use Rattle.yr_answer.specs.MatchList.{Match, IsBest}
 use Rattle.yr_ends.specs.EndWalks as ends
@@ -41,6 +41,13 @@ pub record WereTold (hit : Hit) (hits : List ℕ) (told : List Told) (place : �
       → Contains hits (a + hit.row.atom_length) × IsBest hit.greatest (EndsAt (hit_after hit (a + hit.row.atom_length))) j
   pub complete : (a j : ℕ) → Contains hits (a + hit.row.atom_length) → place ≤ a → EndsAt (hit_after hit (a + hit.row.atom_length)) j
       → (o : ℕ) × Tells told a o
+
+-- what is told at a place: the ends of the hit whose atom begins there, or none
+pub record IsToldHere (hit : Hit) (hits : List ℕ) (place : ℕ) (there : Bool) (ends : Ends) : Type 0 where
+  pub into : there ≡ true → Contains hits (place + hit.row.atom_length)
+  pub back : Contains hits (place + hit.row.atom_length) → there ≡ true
+  pub told : there ≡ true → AreTold (hit_after hit (place + hit.row.atom_length)) ends
+  pub nothing : there ≡ false → (ends.near ≡ None) × (ends.far ≡ None)
 
 -- the marks are as the walk left them, after it was told of those
 pub record IsMidStarts (hit : Hit) (hits : List ℕ) (walk : starts.Walk) (marks : starts.Kept) : Type 0 where

@@ -54,10 +54,10 @@ fn add_if<L: Ledger>(
     ensures least_cost { steps.old ≤ steps.new }
     ensures most_cost { steps.new ≤ steps.old + (if there then 2 else 0) }
 {
-    if !there {
-        return Ok(());
+    if there {
+        return add_hit(&moved(hit, at), ends, list, steps);
     }
-    add_hit(&moved(hit, at), ends, list, steps)
+    Ok(())
 }
 
 // The matches of the hits at all places that are left, from the last down.

@@ -11,7 +11,7 @@ ghost use Rattle.yr_sweep.specs.Sweeps.{AreHits, IsCountBelow, SpansOfAll};
 ghost use Rattle.yr_sweep.specs.Walks.{IsMidSpans, IsSpanWalkOf};
 
 use crate::adding::add_span;
-use crate::counting::count_below;
+use crate::counting::{atom_of, count_below, end_of_atom};
 use std::alloc::Global;
 use std::sync::ledger::Ledger;
 use yr_base::{NoMemory, Steps};
@@ -48,7 +48,7 @@ fn next_end<L: Ledger>(
     ensures least_cost { steps.old ≤ steps.new }
     ensures most_cost { steps.new ≤ steps.old + 2 * length walk.old.ends.moves + 2 * length walk.old.starts.moves + 1 }
 {
-    let at = walk.place() - 1 + u32::from(hit.row.atom_length);
+    let at = end_of_atom(hit, walk.place());
     let below = count_below(hits, *left, at);
     let there = below < *left;
     *left = below;
@@ -79,7 +79,8 @@ fn over_spans<L: Ledger>(
     let mut left = hits.len();
     'falling: while walk.place() > 0 {
         let end = next_end(hit, hits, &mut left, walk, kept, steps);
-        add_span(walk.place(), end, list, steps)?;
+        let start = walk.place();
+        add_span(start, end, list, steps)?;
     }
     Ok(())
 }
@@ -108,19 +109,20 @@ pub fn by_spans<L: Ledger>(
     let onwards = Edges::of(alloc, before, false)?;
     let back = Edges::of(alloc, after, true)?;
     let mut kept = SpanMarks::for_moves(alloc, before.len() as u32, after.len() as u32)?;
-    let before = Side {
+    let upper = Side {
         rows: before,
         edges: &onwards,
     };
-    let after = Side {
+    let lower = Side {
         rows: after,
         edges: &back,
     };
+    let atom = atom_of(hit);
     let mut walk = spans(
-        before,
-        after,
+        upper,
+        lower,
         hit.file,
-        u32::from(hit.row.atom_length),
+        atom,
         hit.border,
         hit.greatest,
         &mut kept,

@@ -13,7 +13,7 @@ ghost use Rattle.yr_sweep.specs.Sweeps.{AreHits, IsCountBelow, IsInside, SpansOf
 ghost use Rattle.yr_sweep.specs.Walks.{AreTold, IsMidStarts, IsStartWalkOf};
 
 use crate::adding::add_span;
-use crate::counting::{count_below, moved};
+use crate::counting::{count_below, end_of_atom, moved, top_of};
 use std::alloc::Global;
 use std::sync::ledger::Ledger;
 use yr_base::{NoMemory, Steps, has_left_border};
@@ -61,13 +61,13 @@ fn told_if<L: Ledger>(
     ensures least_cost { steps.old ≤ steps.new }
     ensures most_cost { steps.new ≤ steps.old + (if there then 1 else 0) }
 {
-    if !there {
-        return Ends {
-            near: None,
-            far: None,
-        };
+    if there {
+        return ends_told(&moved(hit, at), marks, steps);
     }
-    ends_told(&moved(hit, at), marks, steps)
+    Ends {
+        near: None,
+        far: None,
+    }
 }
 
 // An end, where a span may begin at the start.
@@ -113,12 +113,13 @@ fn next_end<L: Ledger>(
     ensures least_cost { steps.old ≤ steps.new }
     ensures most_cost { steps.new ≤ steps.old + (2 * length walk.old.moves + 1) + 1 * (left.old - left.new) }
 {
-    let at = walk.place() - 1 + u32::from(hit.row.atom_length);
+    let at = end_of_atom(hit, walk.place());
     let below = count_below(hits, *left, at);
     let told = told_if(hit, below < *left, at, marks, steps);
     *left = below;
     let end = walk.next(told.near, told.far, kept, steps);
-    with_left_border(hit, walk.place(), end)
+    let start = walk.place();
+    with_left_border(hit, start, end)
 }
 
 // The matches at all places that are left, from the last down.
@@ -148,7 +149,8 @@ fn over_starts<L: Ledger>(
     let mut left = hits.len();
     'falling: while walk.place() > 0 {
         let end = next_end(hit, hits, &mut left, walk, kept, marks, steps);
-        add_span(walk.place(), end, list, steps)?;
+        let start = walk.place();
+        add_span(start, end, list, steps)?;
     }
     Ok(())
 }
@@ -177,7 +179,7 @@ pub fn by_starts<L: Ledger>(
     let rows = program(hit.view, hit.row.before_place);
     let edges = Edges::of(alloc, rows, false)?;
     let mut kept = StartMarks::for_moves(alloc, rows.len() as u32)?;
-    let top = hit.file.len() as u32 + 1 - u32::from(hit.row.atom_length);
+    let top = top_of(hit);
     let mut walk = starts(rows, &edges, hit.file, hit.greatest, top, &mut kept);
     over_starts(hit, hits, &mut walk, &mut kept, marks, list, steps)
 }

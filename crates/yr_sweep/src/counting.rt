@@ -1,7 +1,8 @@
 //! Hits in order.
 
-ghost use Rattle.std.specs.Prelude.{◌≡◌, ◌+◌, ◌≤◌, length};
+ghost use Rattle.std.specs.Prelude.{◌≡◌, ◌+◌, ◌-◌, ◌<◌, ◌≤◌, ◌^◌, length};
 ghost use Rattle.std.specs.List.Sorted.{IsNonDecreasing};
+ghost use Rattle.yr_hits.specs.Spans.{IsGoodHit};
 ghost use Rattle.yr_sweep.specs.Sweeps.{IsCountBelow, hit_after};
 
 use yr_hits::Hit;
@@ -14,6 +15,30 @@ pub fn moved<'a>(hit: &Hit<'a>, at: u32) -> Hit<'a>
         at: at as usize,
         ..*hit
     }
+}
+
+/// The length of the atom.
+pub fn atom_of(hit: &Hit<'_>) -> u32
+    ensures { result ≡ hit.now.row.atom_length }
+{
+    u32::from(hit.row.atom_length)
+}
+
+/// The end of an atom that begins one place down.
+pub fn end_of_atom(hit: &Hit<'_>, place: u32) -> u32
+    requires some { 0 < place }
+    requires small { place + hit.now.row.atom_length ≤ 2 ^ 28 + 1 }
+    ensures { result + 1 ≡ place + hit.now.row.atom_length }
+{
+    place - 1 + atom_of(hit)
+}
+
+/// The place above the last at which an atom may begin.
+pub fn top_of(hit: &Hit<'_>) -> u32
+    requires good { IsGoodHit hit.now }
+    ensures { result ≡ length hit.now.file.now + 1 - hit.now.row.atom_length }
+{
+    hit.file.len() as u32 + 1 - atom_of(hit)
 }
 
 /// How many of the hits lie below a place, where `count` lie below the next.
