@@ -1,5 +1,5 @@
 -- The ends that a walk finds are those of the hits.
-use Rattle.std.proofs.Common.{◌≡◌, ℕ, ◌+◌, ◌-◌, Bool, List, Option, Some, None, IfSome, IfNone, sym, subst, arith}
+use Rattle.std.proofs.Common.{◌≡◌, ℕ, ◌+◌, Option, Some, None, IfSome, IfNone, sym, subst}
 use Rattle.std.specs.Option.{MatchOption}
 use Rattle.yr_moves.specs.declared.rows.ProgramRows.{ProgramRows}
 use Rattle.yr_moves.specs.Programs.{moves_of, sets_of}

@@ -1,16 +1,14 @@
 -- Lists that grow by the spans of the hits of one split, from the last start down.
-use Rattle.std.proofs.Common.{◌≡◌, ℕ, ◌+◌, ◌-◌, ◌<◌, ◌≤◌, inl, inr, Bool, true, false, MatchBool, List, [], ◌∷◌, ◌++◌, length, Contains, Option, Some, None, refl, sym, ap, ◌∙◌, subst, arith}
-use Rattle.std.specs.Prelude.{if◌then◌else◌}
+use Rattle.std.proofs.Common.{◌≡◌, ℕ, ◌+◌, ◌-◌, ◌<◌, ◌≤◌, inl, inr, Bool, true, false, List, length, Contains, Option, Some, None, refl, sym, subst, arith}
 use Rattle.std.proofs.lemmas.Bool.{cases_lt}
-use Rattle.yr_base.specs.Places.{has_left_border}
 use Rattle.yr_answer.specs.MatchList.{Match, IsBest}
 use Rattle.yr_hits.specs.declared.hit.Hit.{Hit}
 use Rattle.yr_hits.specs.Gathering.{DoesFor, Grows}
-use Rattle.yr_hits.specs.Spans.{begin_of, IsGoodHit, IsBestOf, IsSpanOf}
+use Rattle.yr_hits.specs.Spans.{IsGoodHit, IsBestOf, IsSpanOf}
 use Rattle.yr_hits.proofs.GrowLemmas.{grows_none, grows_one, grows_join, grows_as}
 use Rattle.yr_hits.proofs.SplitLemmas.{span_of}
 use Rattle.yr_hits.proofs.HitLemmas.{starts_down}
-use Rattle.yr_sweep.specs.Sweeps.{hit_after, IsInside, AreHits, SpansOf, SpansOfAll, SpansFrom}
+use Rattle.yr_sweep.specs.Sweeps.{hit_after, AreHits, SpansOf, SpansOfAll, SpansFrom}
 use Rattle.yr_sweep.specs.Walks.{SpansAt, with_match}
 use Rattle.yr_sweep.proofs.SweepLemmas.{good_after}
 

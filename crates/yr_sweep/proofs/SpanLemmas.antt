@@ -1,6 +1,6 @@
 -- The spans that the walk over two programs counts are those of the hits.
-use Rattle.std.proofs.Common.{◌≡◌, ℕ, zero, suc, ◌+◌, ◌-◌, ◌<◌, ◌≤◌, ◌⊎◌, inl, inr, ◌↔◌, Bool, true, false, nat_lt, List, [], ◌∷◌, length, Contains, Option, Some, None, IfSome, refl, sym, ap, ◌∙◌, subst, arith}
-use Rattle.std.specs.Prelude.{slice_get, if◌then◌else◌}
+use Rattle.std.proofs.Common.{◌≡◌, ℕ, zero, suc, ◌+◌, ◌-◌, ◌<◌, ◌⊎◌, inl, inr, ◌↔◌, Bool, true, false, nat_lt, List, [], ◌∷◌, length, Contains, Option, Some, refl, sym, ap, ◌∙◌, subst, arith}
+use Rattle.std.specs.Prelude.{if◌then◌else◌}
 use Rattle.std.proofs.lemmas.Bool.{cases_lt, lt-ltb, ltb-true}
 use Rattle.yr_rows.specs.Accepts.{Accepts, AcceptsBackwards}
 use Rattle.yr_moves.specs.declared.rows.ProgramRows.{ProgramRows}
@@ -12,8 +12,7 @@ use Rattle.yr_image.specs.Views.{image_of}
 use Rattle.yr_machine.specs.ImageMatches.{Program}
 use Rattle.yr_hits.specs.declared.hit.Hit.{Hit}
 use Rattle.yr_hits.specs.Programs.{IsProgramOf}
-use Rattle.yr_hits.specs.Gathering.{DoesFor}
-use Rattle.yr_hits.specs.Spans.{begin_of, IsGoodHit, StartsAt, EndsAt, LeadsTo, IsBestOf, IsSpanOf}
+use Rattle.yr_hits.specs.Spans.{begin_of, IsGoodHit, StartsAt, LeadsTo, IsBestOf}
 use Rattle.yr_hits.proofs.SideLemmas.{leads_by, program_is, best_as}
 use Rattle.yr_hits.proofs.HitLemmas.{fields, program_there, accepts_rows, leads_up, starts_down}
 use Rattle.yr_hits.proofs.StartLemmas.{program_starts}
@@ -22,7 +21,7 @@ use Rattle.yr_sweep.specs.Sweeps.{hit_after, IsInside, IsCountBelow, AreHits, Sp
 use Rattle.yr_sweep.specs.Walks.{IsSpanWalkOf, AreAtoms}
 use Rattle.yr_sweep.proofs.OrderLemmas.{is_there, is_counted}
 use Rattle.yr_sweep.proofs.SweepLemmas.{good_after}
-use Rattle.yr_sweep.proofs.PlaceLemmas.{span_in, span_out}
+use Rattle.yr_sweep.proofs.PlaceLemmas.{span_in}
 use Rattle.yr_sweep.proofs.EndLemmas.{end_walk}
 use Rattle.yr_sweep.proofs.StartLemmas.{start_walk}
 

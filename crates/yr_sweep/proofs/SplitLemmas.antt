@@ -1,5 +1,5 @@
 -- Hits of a split, and the spans that they give.
-use Rattle.std.proofs.Common.{◌≡◌, ℕ, ◌+◌, ◌*◌, ◌<◌, ◌≤◌, Bool, List, [], length, Contains, Some, None, refl, sym, ap, ◌∙◌, subst, arith}
+use Rattle.std.proofs.Common.{◌≡◌, ℕ, ◌+◌, ◌*◌, ◌<◌, ◌≤◌, Bool, List, length, Some, ap, ◌∙◌, subst, arith}
 use Rattle.std.specs.Prelude.{slice_get}
 use Rattle.std.specs.Option.{option_map_or}
 use Rattle.std.specs.List.Sorted.{IsPermutation}
@@ -15,13 +15,12 @@ use Rattle.yr_machine.specs.ImageMatches.{is_greatest}
 use Rattle.yr_machine.specs.Wellformed.{IsWellformed}
 use Rattle.yr_hits.specs.declared.hit.Hit.{Hit}
 use Rattle.yr_hits.specs.Gathering.{Grows}
-use Rattle.yr_hits.specs.Spans.{IsGoodHit, IsSpanOfSome}
+use Rattle.yr_hits.specs.Spans.{IsSpanOfSome}
 use Rattle.yr_hits.proofs.GrowLemmas.{grows_none, grows_as}
 use Rattle.yr_hits.proofs.HitLemmas.{there}
-use Rattle.yr_hits.proofs.MemberLemmas.{contains_none}
 use Rattle.yr_hits.proofs.SideLemmas.{good_fields}
 use Rattle.yr_hits.proofs.SplitLemmas.{split_is_good}
-use Rattle.yr_sweep.specs.Sweeps.{AreHits, AreHitsOf, SpansOfAll, Sweeps}
+use Rattle.yr_sweep.specs.Sweeps.{AreHits, SpansOfAll, Sweeps}
 
 -- the row of a split, and that of its string
 pub split_rows : (bytes : List ℕ) (split : ℕ) (row : SplitRow) → IsWellformed bytes → slice_get (image_in bytes).splits split ≡ Some row

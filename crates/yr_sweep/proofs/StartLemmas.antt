@@ -1,6 +1,6 @@
 -- The ends that are told where atoms begin, and what the walk over starts answers.
-use Rattle.std.proofs.Common.{◌≡◌, ℕ, zero, suc, ◌+◌, ◌-◌, ◌<◌, ◌≤◌, ◌⊎◌, inl, inr, ◌↔◌, Bool, true, false, MatchBool, nat_lt, List, [], ◌∷◌, length, Contains, Option, Some, None, refl, sym, ap, ◌∙◌, subst, arith}
-use Rattle.std.specs.Prelude.{slice_get, if◌then◌else◌}
+use Rattle.std.proofs.Common.{◌≡◌, ℕ, zero, suc, ◌+◌, ◌-◌, ◌<◌, ◌≤◌, inl, inr, ◌↔◌, Bool, true, false, nat_lt, List, [], ◌∷◌, length, Contains, Option, Some, None, refl, sym, ap, ◌∙◌, subst, arith}
+use Rattle.std.specs.Prelude.{if◌then◌else◌}
 use Rattle.std.proofs.lemmas.Bool.{cases_lt, lt-ltb, ltb-true}
 use Rattle.yr_base.specs.Places.{has_left_border}
 use Rattle.yr_rows.specs.Accepts.{AcceptsBackwards}
@@ -18,8 +18,8 @@ use Rattle.yr_hits.specs.Spans.{begin_of, IsGoodHit, StartsAt, EndsAt, IsBestOf,
 use Rattle.yr_hits.proofs.SideLemmas.{best_as}
 use Rattle.yr_hits.proofs.HitLemmas.{leads_up, starts_down}
 use Rattle.yr_hits.proofs.StartLemmas.{program_starts}
-use Rattle.yr_sweep.specs.Sweeps.{hit_after, IsInside, IsCountBelow, AreHits, SpansOf, SpansOfAll}
-use Rattle.yr_sweep.specs.Walks.{AreTold, IsStartWalkOf, WereTold, IsToldHere, IsMidStarts}
+use Rattle.yr_sweep.specs.Sweeps.{hit_after, IsInside, IsCountBelow, AreHits, SpansOfAll}
+use Rattle.yr_sweep.specs.Walks.{AreTold, IsStartWalkOf, WereTold, IsToldHere}
 use Rattle.yr_sweep.proofs.OrderLemmas.{is_there, is_counted}
 use Rattle.yr_sweep.proofs.SweepLemmas.{good_after}
 use Rattle.yr_sweep.proofs.PlaceLemmas.{best_by, span_in, span_out}

@@ -1,5 +1,5 @@
 -- Lists that grow by the spans of hits of one split.
-use Rattle.std.proofs.Common.{◌≡◌, ℕ, ◌+◌, ◌-◌, ◌*◌, ◌<◌, ◌≤◌, ◌⊎◌, inl, inr, ◌↔◌, Bool, true, false, List, [], ◌∷◌, ◌++◌, length, Contains, Option, Some, None, true≢false, refl, sym, ap, ◌∙◌, subst, arith}
+use Rattle.std.proofs.Common.{◌≡◌, ℕ, ◌+◌, ◌<◌, inl, inr, Bool, true, false, List, length, Contains, true≢false, sym, ◌∙◌, subst, arith}
 use Rattle.std.specs.Prelude.{slice_index}
 use Rattle.std.proofs.lemmas.Bool.{cases_lt}
 use Rattle.yr_answer.specs.MatchList.{Match}
@@ -8,7 +8,7 @@ use Rattle.yr_hits.specs.Gathering.{Grows}
 use Rattle.yr_hits.specs.Spans.{IsGoodHit, IsSpanOf}
 use Rattle.yr_hits.proofs.GrowLemmas.{grows_none, grows_join, grows_as}
 use Rattle.yr_hits.proofs.SplitLemmas.{span_of}
-use Rattle.yr_sweep.specs.Sweeps.{hit_after, IsInside, AreHits, SpansOf, SpansOfAll, SpansOfRest, SpansOfLater, IsCountBelow}
+use Rattle.yr_sweep.specs.Sweeps.{hit_after, IsInside, AreHits, SpansOf, SpansOfAll, SpansOfRest, SpansOfLater}
 use Rattle.yr_sweep.specs.Walks.{SpansIf}
 use Rattle.yr_sweep.proofs.OrderLemmas.{contains_at, place_of}
 

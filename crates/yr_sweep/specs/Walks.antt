@@ -1,5 +1,5 @@
 -- What walks over a file find of the hits of one split.
-use Rattle.std.specs.Prelude.{◌≡◌, ℕ, ◌+◌, ◌-◌, ◌<◌, ◌≤◌, ◌↔◌, Bool, true, false, List, [], ◌∷◌, ◌++◌, length, Contains, Option, None, Some}
+use Rattle.std.specs.Prelude.{◌≡◌, ℕ, ◌+◌, ◌-◌, ◌<◌, ◌≤◌, ◌↔◌, Bool, true, false, List, [], ◌∷◌, ◌++◌, Contains, Option, None, Some}
 use Rattle.yr_rows.specs.Accepts.{AcceptsBackwards}
 use Rattle.yr_answer.specs.MatchList.{Match, IsBest}
 use Rattle.yr_ends.specs.EndWalks as ends

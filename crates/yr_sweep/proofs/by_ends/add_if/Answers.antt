@@ -3,7 +3,7 @@ use Rattle.yr_hits.specs.declared.hit.Hit.{Hit}
 use Rattle.yr_hits.specs.Gathering.{Grows}
 use Rattle.yr_hits.specs.Spans.{IsGoodHit, AreEnds}
 use Rattle.yr_hits.proofs.GrowLemmas.{on_ok}
-use Rattle.yr_sweep.specs.Sweeps.{SpansOf, hit_after}
+use Rattle.yr_sweep.specs.Sweeps.{SpansOf}
 use Rattle.yr_sweep.specs.Walks.{SpansIf}
 use Rattle.yr_sweep.proofs.SweepLemmas.{good_after, if_there, if_not}
 use Rattle.yr_sweep.proofs.by_ends.add_if.Goals as goal

@@ -1,4 +1,4 @@
-use Rattle.std.proofs.Common.{◌≡◌, ◌+◌, ◌-◌, ◌*◌, ◌<◌, ◌≤◌, [], length, sym, ap, ◌∙◌, subst, arith}
+use Rattle.std.proofs.Common.{◌≡◌, ◌+◌, ◌-◌, ◌*◌, ◌≤◌, [], length, ap, ◌∙◌, subst, arith}
 use Rattle.yr_ends.specs.EndWalks as ends
 use Rattle.yr_spans.specs.StartWalks as starts
 use Rattle.yr_image.specs.Views.{image_of}

@@ -1,4 +1,4 @@
-use Rattle.std.proofs.Common.{◌≡◌, ℕ, ◌+◌, ◌-◌, ◌*◌, ◌<◌, ◌≤◌, Contains, length, refl, sym, ap, ◌∙◌, arith}
+use Rattle.std.proofs.Common.{◌≡◌, ℕ, ◌+◌, ◌*◌, ◌<◌, Contains, length, refl, sym, ap, ◌∙◌, arith}
 use Rattle.yr_sweep.specs.Walks.{with_match}
 use Rattle.yr_sweep.proofs.OrderLemmas.{count_all}
 use Rattle.yr_sweep.proofs.PaidLemmas.{paid_start, paid_more, paid_all}

@@ -1,4 +1,4 @@
-use Rattle.std.proofs.Common.{◌≡◌, ◌+◌, ◌-◌, ◌*◌, ◌<◌, ◌≤◌, [], length, ap, ◌∙◌, subst, arith}
+use Rattle.std.proofs.Common.{◌≡◌, ◌+◌, ◌-◌, ◌*◌, ◌≤◌, [], length, ap, ◌∙◌, subst, arith}
 use Rattle.yr_spans.specs.StartWalks as starts
 use Rattle.yr_image.specs.Views.{image_of}
 use Rattle.yr_machine.specs.Budget.{moves_count}

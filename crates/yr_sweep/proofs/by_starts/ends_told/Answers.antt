@@ -1,6 +1,5 @@
-use Rattle.std.proofs.Common.{◌≡◌, ◌+◌, ◌*◌, length, ap, arith}
+use Rattle.std.proofs.Common.{◌+◌, ◌*◌, length, ap, arith}
 use Rattle.yr_image.specs.Views.{image_of}
-use Rattle.yr_machine.specs.Budget.{side_moves}
 use Rattle.yr_sweep.proofs.FitLemmas.{side_none}
 use Rattle.yr_sweep.proofs.StartLemmas.{told_empty, told_longer}
 use Rattle.yr_sweep.proofs.by_starts.ends_told.Goals as goal

@@ -1,9 +1,7 @@
-use Rattle.std.proofs.Common.{◌≡◌, ℕ, ◌+◌, ◌-◌, ◌*◌, ◌<◌, ◌≤◌, Contains, length, refl, sym, ap, ◌∙◌, subst, arith}
+use Rattle.std.proofs.Common.{◌≡◌, ℕ, ◌+◌, ◌-◌, ◌*◌, ◌<◌, Contains, length, refl, sym, ap, ◌∙◌, subst, arith}
 use Rattle.yr_spans.specs.StartWalks as starts
 use Rattle.yr_image.specs.Views.{image_of}
 use Rattle.yr_hits.specs.Programs.{HasRoom}
-use Rattle.yr_hits.specs.Spans.{IsBestOf}
-use Rattle.yr_sweep.specs.Sweeps.{SpansOfAll}
 use Rattle.yr_sweep.specs.Walks.{with_match}
 use Rattle.yr_sweep.proofs.OrderLemmas.{count_all}
 use Rattle.yr_sweep.proofs.PaidLemmas.{paid_start, paid_more, paid_all}

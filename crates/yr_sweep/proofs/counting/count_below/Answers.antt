@@ -1,4 +1,4 @@
-use Rattle.std.proofs.Common.{◌≡◌, ℕ, ◌-◌, ◌<◌, length, rules, arith, inl, inr}
+use Rattle.std.proofs.Common.{◌≡◌, ◌-◌, ◌<◌, rules, arith, inl, inr}
 use Rattle.std.specs.Prelude.{slice_index}
 use Rattle.yr_sweep.proofs.OrderLemmas.{behind_more, count_to}
 use Rattle.yr_sweep.proofs.counting.count_below.Goals as goal

@@ -1,4 +1,4 @@
-use Rattle.std.proofs.Common.{◌≡◌, ◌≤◌, ◌<◌, ℕ, ◌+◌, ◌-◌, ◌*◌, OnOk, length, refl, sym, ap, ◌∙◌, subst, arith}
+use Rattle.std.proofs.Common.{◌≡◌, ◌≤◌, ◌<◌, ◌+◌, ◌-◌, length, refl, sym, ◌∙◌, subst, arith}
 use Rattle.std.specs.Prelude.{slice_index}
 use Rattle.yr_image.specs.Views.{image_of}
 use Rattle.yr_machine.specs.Budget.{hit_cost}
@@ -6,9 +6,9 @@ use Rattle.yr_hits.specs.declared.hit.Hit.{Hit}
 use Rattle.yr_hits.specs.Gathering.{Grows}
 use Rattle.yr_hits.specs.Programs.{HasRoom}
 use Rattle.yr_hits.specs.Spans.{IsGoodHit, IsSpanOf}
-use Rattle.yr_sweep.specs.Sweeps.{SpansOf, SpansOfRest, hit_after}
+use Rattle.yr_sweep.specs.Sweeps.{SpansOfRest, hit_after}
 use Rattle.yr_sweep.proofs.OrderLemmas.{contains_at}
-use Rattle.yr_sweep.proofs.PaidLemmas.{PaidEach, each_start, each_more, each_done}
+use Rattle.yr_sweep.proofs.PaidLemmas.{each_start, each_more, each_done}
 use Rattle.yr_sweep.proofs.SweepLemmas.{good_after, spans_as, rest_none, rest_more, rest_all}
 use Rattle.yr_sweep.proofs.one_by_one.one_by_one.Goals as goal
 

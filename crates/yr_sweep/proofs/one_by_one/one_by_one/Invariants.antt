@@ -1,4 +1,4 @@
-use Rattle.std.proofs.Common.{◌≡◌, ◌+◌, ◌*◌, ◌≤◌, length}
+use Rattle.std.proofs.Common.{◌≡◌, ◌≤◌, length}
 use Rattle.yr_image.specs.Views.{image_of}
 use Rattle.yr_machine.specs.Budget.{hit_cost}
 use Rattle.yr_hits.specs.Gathering.{Grows}

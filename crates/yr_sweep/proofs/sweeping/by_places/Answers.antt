@@ -1,4 +1,4 @@
-use Rattle.std.proofs.Common.{◌≡◌, ◌+◌, ◌*◌, length, arith}
+use Rattle.std.proofs.Common.{◌+◌, ◌*◌, length, arith}
 use Rattle.yr_image.specs.Views.{image_of}
 use Rattle.yr_machine.specs.Budget.{moves_count, side_moves}
 use Rattle.yr_sweep.proofs.FitLemmas.{side_is, walk_fits}

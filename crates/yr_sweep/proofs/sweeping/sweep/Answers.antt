@@ -1,4 +1,4 @@
-use Rattle.std.proofs.Common.{◌≡◌, ◌+◌, ◌*◌, ◌≤◌, ℕ, List, OnOk, Contains, length, sym, ap, ◌∙◌, subst, arith}
+use Rattle.std.proofs.Common.{◌+◌, ◌*◌, ◌≤◌, ℕ, List, OnOk, Contains, length, sym, ap, subst, arith}
 use Rattle.yr_image.specs.Image.{Image}
 use Rattle.yr_image.specs.Views.{shown_bytes, image_of}
 use Rattle.yr_machine.specs.Budget.{hit_cost}
