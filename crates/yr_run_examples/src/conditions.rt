@@ -184,5 +184,5 @@ out 3"#;
 
 #[test]
 fn conditions(rt: HostRuntime) {
-    hold(&rt, rt.alloc(), FILES, ROWS, 32);
+    hold(&rt, rt.alloc(), FILES, ROWS, 31);
 }

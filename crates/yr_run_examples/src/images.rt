@@ -200,7 +200,7 @@ status 3"#;
 
 #[test]
 fn images(rt: HostRuntime) {
-    hold(&rt, rt.alloc(), FILES, ROWS, 33);
+    hold(&rt, rt.alloc(), FILES, ROWS, 34);
 }
 
 // A row for each length of the first sample but its own.

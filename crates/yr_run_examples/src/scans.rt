@@ -239,5 +239,5 @@ out hits: 2"#;
 
 #[test]
 fn scans(rt: HostRuntime) {
-    hold(&rt, rt.alloc(), FILES, ROWS, 35);
+    hold(&rt, rt.alloc(), FILES, ROWS, 36);
 }

@@ -225,5 +225,5 @@ out matches 16"#;
 
 #[test]
 fn words(rt: HostRuntime) {
-    hold(&rt, rt.alloc(), FILES, ROWS, 54);
+    hold(&rt, rt.alloc(), FILES, ROWS, 50);
 }
