@@ -146,7 +146,7 @@ file t.bin .RoaXMgcHJvZ3JhbSBjYW5ub3.UaGlzIHByb2dyYW0gY2Fubm90.
 scan -s r.yar t.bin
 out a t.bin
 out 0x1:24:$a
-out 0x1a:24:$a
+out 0x1a:25:$a
 
 file r.yar rule a { strings: $a = "a" base64 condition: $a }
 file t.bin Yh
