@@ -159,10 +159,10 @@ fn puts_are_told(alloc: Global, row: &Row<'_>) -> Result<bool, NoMemory> {
     Ok(row.is_answered(end.status, &end.world) && (wanted == 0 || wanted as u64 == puts))
 }
 
-// Whether an output that is full is told, at each room.
+// Whether an output that is full is told, at every seventh size.
 fn rooms_are_told(alloc: Global, row: &Row<'_>) -> Result<bool, NoMemory> {
     let mut faults = NO_FAULT;
-    for room in 0..row.out.len() {
+    for room in (0..row.out.len()).step_by(7) {
         faults.room = (room % 10_000) as u32;
         let end = end_with(alloc, row, faults)?;
         if !ended_at_put(row, room, &end) {
