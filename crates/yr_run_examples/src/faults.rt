@@ -1,9 +1,7 @@
 //! Calls and puts that fail.
 
-use crate::judging::hold;
-
 /// What stands before each row.
-const FILES: &str = r#"file r.yar include "i.yar" rule a { strings: $a = "ab" condition: $a }
+pub const FILES: &str = r#"file r.yar include "i.yar" rule a { strings: $a = "ab" condition: $a }
 file i.yar
 file q.yar rule r { condition: true }
 file s.yar rule a { strings: $a = /a+/ condition: any of them }
@@ -11,7 +9,8 @@ file t.bin xxabab
 file b.bin baaa
 calls"#;
 
-const ROWS: &str = r#"calls r.yar i.yar t.bin
+/// The rows.
+pub const ROWS: &str = r#"calls r.yar i.yar t.bin
 run scan r.yar t.bin
 out a t.bin
 puts 1
@@ -101,7 +100,5 @@ run scan r.yar t.bin
 err cannot read no.yar
 status 4"#;
 
-#[test]
-fn faults(rt: HostRuntime) {
-    hold(&rt, rt.alloc(), FILES, ROWS, 16);
-}
+/// How many rows there are.
+pub const COUNT: u32 = 16;

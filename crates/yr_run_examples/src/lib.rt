@@ -26,6 +26,8 @@ mod running;
 #[cfg(test)]
 mod scans;
 #[cfg(test)]
+mod tests;
+#[cfg(test)]
 mod ways;
 #[cfg(test)]
 mod words;

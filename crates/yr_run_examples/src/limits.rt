@@ -1,13 +1,12 @@
 //! What is too long, too many or too heavy.
 
-use crate::judging::hold;
-
 /// What stands before each row.
-const FILES: &str = r#"file r.yar rule a { condition: filesize == 268435456 }
+pub const FILES: &str = r#"file r.yar rule a { condition: filesize == 268435456 }
 file e.yar
 file t.bin"#;
 
-const ROWS: &str = r#"file r.yar rule x { condition: for any i in (0..999999) : ( true ) }
+/// The rows.
+pub const ROWS: &str = r#"file r.yar rule x { condition: for any i in (0..999999) : ( true ) }
 more r.yar rule y { condition: for any i in (0..268435457) : ( true ) }
 scan r.yar t.bin
 out x t.bin
@@ -43,7 +42,5 @@ status 2
 run check e.yar n=*33554399
 out rules 0, strings 0"#;
 
-#[test]
-fn limits(rt: HostRuntime) {
-    hold(&rt, rt.alloc(), FILES, ROWS, 7);
-}
+/// How many rows there are.
+pub const COUNT: u32 = 7;

@@ -1,9 +1,7 @@
 //! Fields of files and digests.
 
-use crate::judging::hold;
-
 /// What stands before each row.
-const FILES: &str = r#"file t.bin abc
+pub const FILES: &str = r#"file t.bin abc
 file t.elf
 hex t.elf 7f 45 4c 46 02 01 01
 zeros t.elf 320
@@ -36,7 +34,8 @@ hex h.bin 7f 45 4c 46 02 01 01
 zeros h.bin 64
 byte h.bin 16 02 00 3e 00"#;
 
-const ROWS: &str = r#"file r.yar import "elf"
+/// The rows.
+pub const ROWS: &str = r#"file r.yar import "elf"
 more r.yar rule h1 { condition: elf.type == elf.ET_EXEC }
 more r.yar rule h2 { condition: defined elf.sections[0].size }
 scan r.yar h.bin
@@ -146,7 +145,5 @@ more r.yar rule b { condition: not defined pe.machine and defined elf.machine }
 scan r.yar t.elf
 out b t.elf"#;
 
-#[test]
-fn modules(rt: HostRuntime) {
-    hold(&rt, rt.alloc(), FILES, ROWS, 12);
-}
+/// How many rows there are.
+pub const COUNT: u32 = 12;

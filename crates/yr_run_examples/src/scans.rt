@@ -1,11 +1,10 @@
 //! Strings and their matches.
 
-use crate::judging::hold;
-
 /// What stands before each row.
-const FILES: &str = r#"file t.bin xxabab"#;
+pub const FILES: &str = r#"file t.bin xxabab"#;
 
-const ROWS: &str = r#"file r.yar rule a { strings: $a = "ab" condition: $a }
+/// The rows.
+pub const ROWS: &str = r#"file r.yar rule a { strings: $a = "ab" condition: $a }
 scan -s r.yar t.bin
 out a t.bin
 out 0x2:2:$a
@@ -237,7 +236,5 @@ scan -c --stats r.yar t.bin
 out 1
 out hits: 2"#;
 
-#[test]
-fn scans(rt: HostRuntime) {
-    hold(&rt, rt.alloc(), FILES, ROWS, 36);
-}
+/// How many rows there are.
+pub const COUNT: u32 = 36;

@@ -42,13 +42,13 @@ const SCAN: Form = Form {
 
 // The last word that is no external.
 fn target_of(line: &str) -> &str {
-    let mut target = "";
+    let mut target = None;
     for word in line.split_whitespace() {
         if !word.contains('=') {
-            target = word;
+            target = Some(word);
         }
     }
-    target
+    target.unwrap_or("")
 }
 
 // What a word of a scan of this target becomes.

@@ -1,14 +1,13 @@
 //! Words that read and words that do not, and the commands besides `scan`.
 
-use crate::judging::hold;
-
 /// What stands before each row.
-const FILES: &str = r#"file r.yar rule a { strings: $a = "ab" condition: $a }
+pub const FILES: &str = r#"file r.yar rule a { strings: $a = "ab" condition: $a }
 file q.yar rule r { condition: true }
 file v.yar rule v { condition: n > 4 and name iequals "ABC" }
 file t.bin xxabab"#;
 
-const ROWS: &str = r#"run
+/// The rows.
+pub const ROWS: &str = r#"run
 err bad command line
 status 1
 
@@ -223,7 +222,5 @@ out bytes 192
 out satisfied 16
 out matches 16"#;
 
-#[test]
-fn words(rt: HostRuntime) {
-    hold(&rt, rt.alloc(), FILES, ROWS, 50);
-}
+/// How many rows there are.
+pub const COUNT: u32 = 50;
