@@ -1,0 +1,37 @@
+//! The tables.
+
+use crate::judging::hold;
+use crate::{conditions, faults, images, limits, modules, refusals, scans, words};
+
+#[test]
+fn answers(rt: HostRuntime) {
+    let alloc = rt.alloc();
+    hold(&rt, alloc, scans::FILES, scans::ROWS, scans::COUNT);
+    hold(
+        &rt,
+        alloc,
+        conditions::FILES,
+        conditions::ROWS,
+        conditions::COUNT,
+    );
+    hold(&rt, alloc, modules::FILES, modules::ROWS, modules::COUNT);
+}
+
+#[test]
+fn words_and_refusals(rt: HostRuntime) {
+    let alloc = rt.alloc();
+    hold(&rt, alloc, refusals::FILES, refusals::ROWS, refusals::COUNT);
+    hold(&rt, alloc, words::FILES, words::ROWS, words::COUNT);
+    hold(&rt, alloc, limits::FILES, limits::ROWS, limits::COUNT);
+}
+
+#[test]
+fn images_and_faults(rt: HostRuntime) {
+    let alloc = rt.alloc();
+    hold(&rt, alloc, images::FILES, images::ROWS, images::COUNT);
+    match images::cuts(alloc) {
+        Ok(rows) => hold(&rt, alloc, images::FILES, rows.as_str(), 154),
+        Err(_) => panic!(rt; "out of memory"),
+    }
+    hold(&rt, alloc, faults::FILES, faults::ROWS, faults::COUNT);
+}
