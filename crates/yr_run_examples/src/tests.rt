@@ -26,12 +26,17 @@ fn words_and_refusals(rt: HostRuntime) {
 }
 
 #[test]
-fn images_and_faults(rt: HostRuntime) {
+fn written_images(rt: HostRuntime) {
     let alloc = rt.alloc();
     hold(&rt, alloc, images::FILES, images::ROWS, images::COUNT);
     match images::cuts(alloc) {
         Ok(rows) => hold(&rt, alloc, images::FILES, rows.as_str(), 154),
         Err(_) => panic!(rt; "out of memory"),
     }
+}
+
+#[test]
+fn failing_calls(rt: HostRuntime) {
+    let alloc = rt.alloc();
     hold(&rt, alloc, faults::FILES, faults::ROWS, faults::COUNT);
 }
