@@ -14,8 +14,8 @@ use timing::time;
 const CASES: [(&str, usize, usize); 5] = [
     ("scan r.yar t.bin", 1_000, 100_000_000),
     ("scan -C r.img t.bin", 1_000, 100_000_000),
-    ("scan r.yar t.bin", 10_000, 0),
-    ("scan -C r.img t.bin", 10_000, 0),
+    ("scan r.yar t.bin", 5_000, 0),
+    ("scan -C r.img t.bin", 5_000, 0),
     ("scan -C r.img t.bin", 1, 0),
 ];
 
