@@ -1,7 +1,7 @@
 pub mod ModifierLemmas
-pub mod FrontLemmas
 pub mod UnusedLemmas
 pub mod MeansLemmas
+pub mod KnownLemmas
 pub mod TextSizeLemmas
 pub mod StringLemmas
 pub mod ListLemmas

@@ -4,23 +4,13 @@ use Rattle.std.specs.Prelude.{codes, not}
 use Rattle.std.specs.Option.{option_or}
 use Rattle.std.specs.List.{list_any, flat_map}
 use Rattle.std.specs.Str.{bytes_eq}
-use Rattle.std.specs.Cmp.Lexicographic.{bytes_decides}
-use Rattle.yr_numbered.specs.Names.{Name, has, begins}
+use Rattle.yr_numbered.specs.Names.{Name, has, has_front, begins, first, with_sign}
+use Rattle.yr_numbered.proofs.NameLemmas.{bytes_eq-turned}
 use Rattle.yr_uses.specs.Uses as use'
 use Rattle.yr_uses.specs.Uses.{Use}
-use Rattle.yr_numbered.specs.Names.{first, with_sign}
-use Rattle.yr_types.specs.Checks.{has_front, uses_string, unused_string}
+use Rattle.yr_types.specs.Checks.{uses_string, unused_string}
 use Rattle.yr_types.specs.Given.{name_if}
 use Rattle.yr_findings.specs.Unused.{is_everything, is_used, front_name, whole_name, without_use}
-
-turned : (a b : Name) → bytes_eq a b ≡ bytes_eq b a
-turned a b = by (bytes_eq a b) refl (bytes_eq b a) refl
-  where
-    by : (x : Bool) → bytes_eq a b ≡ x → (y : Bool) → bytes_eq b a ≡ y → x ≡ y
-    by true e true f = refl
-    by false e false f = refl
-    by true e false f = sym ((bytes_decides b a).1 (sym ((bytes_decides a b).0 e))) ∙ f
-    by false e true f = sym e ∙ (bytes_decides a b).1 (sym ((bytes_decides b a).0 f))
 
 or-whole : (a e w f : Bool) → (a || (e || (w || f))) ≡ (e || ((a || w) || f))
 or-whole true true w f = refl
@@ -37,7 +27,7 @@ whole : (s n : Name) (us : List Use) → list_any (uses_string s) us ≡ is_used
     → (bytes_eq n s || list_any (uses_string s) us) ≡ is_used (list_any is_everything us) (n ∷ flat_map whole_name us) (flat_map front_name us) s
 whole s n us h =
     let e = list_any is_everything us in let w = has s (flat_map whole_name us) in let f = has_front (flat_map front_name us) s in
-    ap (λ b. bytes_eq n s || b) h ∙ or-whole (bytes_eq n s) e w f ∙ ap (λ b. e || ((b || w) || f)) (turned n s)
+    ap (λ b. bytes_eq n s || b) h ∙ or-whole (bytes_eq n s) e w f ∙ ap (λ b. e || ((b || w) || f)) (bytes_eq-turned n s)
 
 used-alike : (s : Name) (us : List Use) → list_any (uses_string s) us ≡ is_used (list_any is_everything us) (flat_map whole_name us) (flat_map front_name us) s
 unfolding has_front

@@ -1,9 +1,8 @@
 -- What a condition uses of its rule's strings, by the names that stand in it.
 use Rattle.std.specs.Prelude.{◌||◌, Bool, true, false, not, List, [], ◌∷◌, Option, codes}
-use Rattle.yr_numbered.specs.Names.{Name, has, begins, with_sign}
+use Rattle.yr_numbered.specs.Names.{Name, has, has_front, begins, with_sign}
 use Rattle.yr_uses.specs.Uses as use'
 use Rattle.yr_uses.specs.Uses.{Use}
-use Rattle.yr_types.specs.Checks.{has_front}
 use Rattle.yr_types.specs.Given.{name_if}
 
 -- all strings are used

@@ -1,4 +1,4 @@
-//! Names that stand twice, and names that a wildcard claims.
+//! Names that stand twice.
 
 ghost use Rattle.std.specs.Prelude.{◌≡◌, IfOk, filter, map};
 ghost use Rattle.std.specs.Option.{option_map};
@@ -11,22 +11,9 @@ ghost use Rattle.yr_types.specs.Given.{naming};
 use crate::finding::{Finding, Named, found, string_name};
 use std::alloc::Global;
 use yr_base::NoMemory;
-use yr_numbered::{Name, Numbered, first_twice};
+use yr_numbered::{Name, first_twice};
 use yr_syntax::StringDecl;
 use yr_types::Code;
-
-/// Whether the name begins with one of the fronts: whether one of its beginnings is a front.
-#[tactic(auto, using(crate::proofs::FrontLemmas::front_there))]
-pub fn has_front(fronts: &Numbered<'_>, name: &[u8]) -> bool
-    ensures { result ≡ spec.has_front fronts.now name.now }
-{
-    for size in 0..name.len() {
-        if fronts.has(&name[..size]) {
-            return true;
-        }
-    }
-    fronts.has(name)
-}
 
 fn tag_names<'a>(alloc: Global, tags: &'a [Vec<u8>]) -> Result<Vec<Name<'a>>, NoMemory>
     ensures { IfOk result (λ all. all.items ≡ map bytes_of tags.now) }

@@ -6,6 +6,7 @@ ghost use Rattle.yr_rules.specs.Rules.{external_of};
 ghost use Rattle.yr_syntax.specs.Declaration.{string_of};
 ghost use Rattle.yr_uses.specs.Views.{use_of};
 ghost use Rattle.yr_types.specs.Checks.{wildcard};
+ghost use Rattle.yr_findings.specs.Unused.{front_name};
 
 use std::alloc::Global;
 use yr_base::NoMemory;
@@ -33,6 +34,36 @@ pub fn string_names<'a>(alloc: Global, strings: &'a [StringDecl]) -> Result<Numb
     let mut all = Numbered::new(alloc);
     for string in strings {
         all.add(&string.name)?;
+    }
+    Ok(all)
+}
+
+/// The fronts of a condition's items of strings with a `*`.
+pub fn string_fronts<'a>(alloc: Global, uses: &[Use<'a>]) -> Result<Numbered<'a>, NoMemory>
+    ensures { IfOk result (λ all. all ≡ flat_map front_name (map use_of uses.now)) }
+{
+    let mut all = Numbered::new(alloc);
+    for used in uses {
+        if let Use::Member(name, wild) = used
+            && *wild
+        {
+            all.add(name)?;
+        }
+    }
+    Ok(all)
+}
+
+/// The fronts of a condition's items of rules with a `*`.
+pub fn rule_fronts<'a>(alloc: Global, uses: &[Use<'a>]) -> Result<Numbered<'a>, NoMemory>
+    ensures { IfOk result (λ all. all ≡ flat_map wildcard (map use_of uses.now)) }
+{
+    let mut all = Numbered::new(alloc);
+    for used in uses {
+        if let Use::Earlier(name, wild) = used
+            && *wild
+        {
+            all.add(name)?;
+        }
     }
     Ok(all)
 }

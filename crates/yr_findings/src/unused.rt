@@ -10,10 +10,10 @@ ghost use Rattle.yr_findings.specs.Findings.{named_of};
 ghost use Rattle.yr_findings.specs.Unused as spec;
 
 use crate::finding::{Named, string_name};
-use crate::names_twice::has_front;
+use crate::tables::string_fronts;
 use std::alloc::Global;
 use yr_base::NoMemory;
-use yr_numbered::{Numbered, begins};
+use yr_numbered::{Numbered, begins, has_front};
 use yr_uses::Use;
 
 /// The names by which a condition uses strings.
@@ -52,32 +52,19 @@ fn add_whole<'a>(used: &Use<'a>, wholes: &mut Numbered<'a>) -> Result<(), NoMemo
     Ok(())
 }
 
-fn add_front<'a>(used: &Use<'a>, fronts: &mut Numbered<'a>) -> Result<(), NoMemory>
-    ensures { OnOk result (fronts.new ≡ fronts.old ++ spec.front_name (use_of used.now)) }
-{
-    if let Use::Member(name, wild) = used
-        && *wild
-    {
-        fronts.add(name)?;
-    }
-    Ok(())
-}
-
 fn used_names<'a>(alloc: Global, uses: &[Use<'a>]) -> Result<UsedNames<'a>, NoMemory>
     ensures everything { IfOk result (λ u. u.everything ≡ list_any spec.is_everything (map use_of uses.now)) }
     ensures wholes { IfOk result (λ u. u.wholes ≡ flat_map spec.whole_name (map use_of uses.now)) }
     ensures fronts { IfOk result (λ u. u.fronts ≡ flat_map spec.front_name (map use_of uses.now)) }
 {
     let mut wholes = Numbered::new(alloc);
-    let mut fronts = Numbered::new(alloc);
     for used in uses {
         add_whole(used, &mut wholes)?;
-        add_front(used, &mut fronts)?;
     }
     Ok(UsedNames {
         everything: uses_everything(uses),
         wholes,
-        fronts,
+        fronts: string_fronts(alloc, uses)?,
     })
 }
 

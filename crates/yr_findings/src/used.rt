@@ -1,6 +1,6 @@
 //! What a condition uses that is not there, and loops that are too deep or too long.
 
-ghost use Rattle.std.specs.Prelude.{◌≡◌, map, true};
+ghost use Rattle.std.specs.Prelude.{◌≡◌, IfOk, map};
 ghost use Rattle.std.specs.List.{list_any};
 ghost use Rattle.std.specs.Option.{option_map};
 ghost use Rattle.yr_numbered.specs.Names as names;
@@ -9,36 +9,16 @@ ghost use Rattle.yr_types.specs.Checks as spec;
 ghost use Rattle.yr_findings.specs.Findings.{named_of};
 
 use crate::finding::Named;
-use yr_numbered::{Numbered, begins};
+use crate::known::Known;
+use crate::tables::{rule_fronts, string_fronts};
+use std::alloc::Global;
+use yr_base::NoMemory;
+use yr_numbered::Numbered;
 use yr_uses::Use;
 
-/// Whether one of the names begins so.
-fn begins_some(front: &[u8], all: &Numbered<'_>) -> bool
-    ensures { result ≡ list_any (names.means front.now true) all.now }
-{
-    for number in 0..all.len() {
-        if begins(front, all.name(number)) {
-            return true;
-        }
-    }
-    false
-}
-
-/// Whether a name of a set means one of the names.
-#[tactic(auto, using(crate::proofs::MeansLemmas::means_front, crate::proofs::MeansLemmas::means_whole))]
-fn means_some(item: &[u8], wild: bool, all: &Numbered<'_>) -> bool
-    ensures { result ≡ names.means_some item.now wild all.now }
-{
-    if wild {
-        begins_some(item, all)
-    } else {
-        all.has(item)
-    }
-}
-
 /// The token of a name that no string has, or of a sign that means none.
-fn unknown_string<'a>(strings: &Numbered<'_>, used: &Use<'a>) -> Option<Named<'a>>
-    ensures { option_map named_of result ≡ spec.unknown_string strings.now (use_of used.now) }
+fn unknown_string<'a>(strings: &Known<'_, '_, '_>, used: &Use<'a>) -> Option<Named<'a>>
+    ensures { option_map named_of result ≡ spec.unknown_string strings.now.names.now (use_of used.now) }
 {
     match used {
         Use::String(sign, name) => {
@@ -50,7 +30,7 @@ fn unknown_string<'a>(strings: &Numbered<'_>, used: &Use<'a>) -> Option<Named<'a
         }
         Use::Nameless(sign) => Some(Named::Token(*sign, &[], false)),
         Use::Member(name, wild) => {
-            if means_some(name, *wild, strings) {
+            if strings.means_some(name, *wild) {
                 None
             } else {
                 Some(Named::Token(b'$', name, *wild))
@@ -61,8 +41,8 @@ fn unknown_string<'a>(strings: &Numbered<'_>, used: &Use<'a>) -> Option<Named<'a
 }
 
 /// The first such token.
-pub fn first_unknown_string<'a>(strings: &Numbered<'_>, uses: &[Use<'a>]) -> Option<Named<'a>>
-    ensures { option_map named_of result ≡ names.first (spec.unknown_string strings.now) (map use_of uses.now) }
+fn first_unknown_token<'a>(strings: &Known<'_, '_, '_>, uses: &[Use<'a>]) -> Option<Named<'a>>
+    ensures { option_map named_of result ≡ names.first (spec.unknown_string strings.now.names.now) (map use_of uses.now) }
 {
     for used in uses {
         let unknown = unknown_string(strings, used);
@@ -73,14 +53,28 @@ pub fn first_unknown_string<'a>(strings: &Numbered<'_>, uses: &[Use<'a>]) -> Opt
     None
 }
 
+/// The first token of a name that no string has, or of a sign that means none. An item with a `*` is compared with one name
+/// after another, but where there are many of them: then the names are walked once for all.
+pub fn first_unknown_string<'a>(
+    alloc: Global,
+    strings: &Numbered<'_>,
+    uses: &[Use<'a>],
+) -> Result<Option<Named<'a>>, NoMemory>
+    ensures { IfOk result (λ o. option_map named_of o ≡ names.first (spec.unknown_string strings.now) (map use_of uses.now)) }
+{
+    let fronts = string_fronts(alloc, uses)?;
+    let known = Known::new(alloc, strings, fronts)?;
+    Ok(first_unknown_token(&known, uses))
+}
+
 /// A word without a meaning, a field that its module lacks, an item that no earlier rule of the namespace meets.
-fn unknown_name<'a>(rules: &Numbered<'_>, used: &Use<'a>) -> Option<Named<'a>>
-    ensures { option_map named_of result ≡ spec.unknown_name rules.now (use_of used.now) }
+fn unknown_name<'a>(rules: &Known<'_, '_, '_>, used: &Use<'a>) -> Option<Named<'a>>
+    ensures { option_map named_of result ≡ spec.unknown_name rules.now.names.now (use_of used.now) }
 {
     match used {
         Use::Unknown(word) => Some(Named::Word(word)),
         Use::Earlier(name, wild) => {
-            if means_some(name, *wild, rules) {
+            if rules.means_some(name, *wild) {
                 None
             } else {
                 Some(Named::Word(name))
@@ -91,8 +85,8 @@ fn unknown_name<'a>(rules: &Numbered<'_>, used: &Use<'a>) -> Option<Named<'a>>
 }
 
 /// The first such word.
-pub fn first_unknown_name<'a>(rules: &Numbered<'_>, uses: &[Use<'a>]) -> Option<Named<'a>>
-    ensures { option_map named_of result ≡ names.first (spec.unknown_name rules.now) (map use_of uses.now) }
+fn first_unknown_word<'a>(rules: &Known<'_, '_, '_>, uses: &[Use<'a>]) -> Option<Named<'a>>
+    ensures { option_map named_of result ≡ names.first (spec.unknown_name rules.now.names.now) (map use_of uses.now) }
 {
     for used in uses {
         let unknown = unknown_name(rules, used);
@@ -101,6 +95,20 @@ pub fn first_unknown_name<'a>(rules: &Numbered<'_>, uses: &[Use<'a>]) -> Option<
         }
     }
     None
+}
+
+/// The first word without a meaning, or item that no earlier rule of the namespace meets. Items with a `*` are compared as
+/// those of strings are.
+pub fn first_unknown_name<'a>(
+    alloc: Global,
+    rules: &Numbered<'_>,
+    uses: &[Use<'a>],
+) -> Result<Option<Named<'a>>, NoMemory>
+    ensures { IfOk result (λ o. option_map named_of o ≡ names.first (spec.unknown_name rules.now) (map use_of uses.now)) }
+{
+    let fronts = rule_fronts(alloc, uses)?;
+    let known = Known::new(alloc, rules, fronts)?;
+    Ok(first_unknown_word(&known, uses))
 }
 
 fn is_deep(used: &Use<'_>) -> bool

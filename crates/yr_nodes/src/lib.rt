@@ -8,5 +8,6 @@ mod prefix;
 mod reading;
 mod valued;
 
+pub use naming::set_size;
 pub use node_of_condition::condition_node;
 pub use reading::{HexAnswer, RegexAnswer, hex_answer, regex_answer};

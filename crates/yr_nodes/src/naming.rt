@@ -1,9 +1,10 @@
 //! Strings and sets by their numbers.
 
-ghost use Rattle.std.specs.Prelude.{◌≡◌, ◌+◌, ◌≤◌, ◌^◌, IfOk, length, map, false};
+ghost use Rattle.std.specs.Prelude.{◌≡◌, ◌+◌, ◌*◌, ◌≤◌, ◌^◌, IfOk, length, filter, map, false};
 ghost use Rattle.yr_nodes.specs.Room.{IsRoomy};
 ghost use Rattle.std.specs.List.{range_with_len};
 ghost use Rattle.yr_rules.specs.NodeTree.{set_of};
+ghost use Rattle.yr_rules.specs.Weight.{set_weight};
 ghost use Rattle.yr_syntax.specs.Condition.{item_of, set_of as set_tree};
 ghost use Rattle.yr_uses.specs.Around.{around_of};
 ghost use Rattle.yr_uses.specs.Views.{earlier_rules};
@@ -11,25 +12,12 @@ ghost use Rattle.yr_nodes.specs.Nodes as spec;
 ghost use Rattle.yr_nodes.specs.Shapes.{kept_ref, kept_set};
 ghost use Rattle.yr_numbered.specs.Names as names;
 
-use std::alloc::Global;
+use std::alloc::{AllocError, Global};
 use yr_base::NoMemory;
-use yr_numbered::{Numbered, means};
+use yr_numbered::{Numbered, Wanted};
 use yr_rules::{Members, StringRef};
 use yr_syntax::{SetItem, SetRef};
 use yr_uses::{Around, Scopes};
-
-/// Whether one of the items means the name.
-#[tactic(auto, unfolding(yr_numbered::specs::Names::is_meant))]
-fn is_meant(items: &[SetItem], name: &[u8]) -> bool
-    ensures { result ≡ names.is_meant (map item_of items.now) name.now }
-{
-    for item in items {
-        if means(&item.name, item.wild, name) {
-            return true;
-        }
-    }
-    false
-}
 
 /// The numbers, from one on, of the names that the items mean.
 fn numbers_meant(
@@ -41,9 +29,10 @@ fn numbers_meant(
     requires { first + length all.now ≤ 2 ^ 32 }
     ensures { IfOk result (λ met. met.items ≡ spec.numbers_meant (map item_of items.now) first all.now) }
 {
+    let wanted = Wanted::new(alloc, items)?;
     let mut met = Vec::new(alloc);
     for place in 0..all.len() {
-        if is_meant(items, all.name(place)) {
+        if wanted.means(all.name(place)) {
             met.push(first + place as u32)?;
         }
     }
@@ -72,9 +61,10 @@ fn rules_meant(
     requires { length numbers.now ≡ length rules.now }
     ensures { IfOk result (λ met. met.items ≡ spec.rules_meant (map item_of items.now) (earlier_rules rules.now numbers.now)) }
 {
+    let wanted = Wanted::new(alloc, items)?;
     let mut met = Vec::new(alloc);
     for place in 0..rules.len() {
-        if is_meant(items, rules.name(place)) {
+        if wanted.means(rules.name(place)) {
             met.push(numbers[place])?;
         }
     }
@@ -99,6 +89,31 @@ fn members(alloc: Global, around: &Around<'_, '_>, set: &SetRef) -> Result<Membe
             let met = rules_meant(alloc, items, around.rules, around.rule_numbers)?;
             Ok(Members::Rules(met))
         }
+    }
+}
+
+/// How many of the names the items mean.
+fn count_meant(alloc: Global, items: &[SetItem], all: &Numbered<'_>) -> Result<usize, AllocError>
+    ensures { IfOk result (λ n. n ≡ length (filter (names.is_meant (map item_of items.now)) all.now)) }
+{
+    let wanted = Wanted::new(alloc, items)?;
+    let mut count = 0;
+    for place in 0..all.len() {
+        if wanted.means(all.name(place)) {
+            count += 1;
+        }
+    }
+    Ok(count)
+}
+
+/// How many members a set has. They are counted and not made, so that what they weigh is known before they take memory.
+pub fn set_size(alloc: Global, around: &Around<'_, '_>, set: &SetRef) -> Result<usize, NoMemory>
+    ensures { IfOk result (λ n. 16 * n ≡ set_weight (spec.set_node (around_of around.now) (set_tree set.now))) }
+{
+    match set {
+        SetRef::Them => Ok(around.strings.len()),
+        SetRef::Strings(items) => Ok(count_meant(alloc, items, around.strings)?),
+        SetRef::Rules(items) => Ok(count_meant(alloc, items, around.rules)?),
     }
 }
 

@@ -1,6 +1,6 @@
 -- The checks on a rule, stage by stage.
-use Rattle.std.proofs.Common.{◌≡◌, ℕ, ◌+◌, ◌≤◌, ◌<◌, List, [], ◌∷◌, length, min, drop, Bool, true, false, sym, ap, subst, ◌∙◌, arith, Some, None, Option, Result, Ok, Err}
-use Rattle.std.specs.Prelude.{nat_le, ◌&&◌, is_some, OnOk, IfErr}
+use Rattle.std.proofs.Common.{◌≡◌, ℕ, ◌+◌, List, [], ◌∷◌, min, drop, Bool, true, sym, ap, subst, ◌∙◌, arith, Some, None, Option, Result, Ok, Err}
+use Rattle.std.specs.Prelude.{is_some, OnOk, IfErr}
 use Rattle.std.specs.Option.{option_or, option_and_then}
 use Rattle.yr_numbered.specs.Names.{first}
 use Rattle.yr_rules.specs.Kinds.{kind_of}
@@ -11,7 +11,7 @@ use Rattle.yr_types.specs.declared.check.Check.{Check}
 use Rattle.yr_types.specs.declared.check.Check.TheVariants as check
 use Rattle.yr_types.specs.declared.refusal.Code.TheVariants as code
 use Rattle.yr_types.specs.declared.refusal.ResolveFault.{ResolveFault}
-use Rattle.yr_types.specs.Sources.{PlacedRule, first_string_of}
+use Rattle.yr_types.specs.Sources.{PlacedRule}
 use Rattle.yr_types.specs.Given.{Given, around, finding, rule_node}
 use Rattle.yr_types.specs.Patterns.{bad_modifiers, empty_string}
 use Rattle.yr_types.specs.Refusals.{PlainRefusal, at_rule, checks}
@@ -20,7 +20,7 @@ use Rattle.yr_findings.specs.Findings.{IsSoundString}
 use Rattle.yr_resolving.specs.Judged.{Explains, rest_fault, rule_fault, weight_fault}
 use Rattle.yr_resolving.specs.Stages.{early_fault, early_finding, late_fault}
 use Rattle.yr_nodes.proofs.ShapeLemmas.{shape-exact, shape-kind}
-use Rattle.yr_resolving.proofs.StageLemmas.{few-counts, has-kind, too-many}
+use Rattle.yr_resolving.proofs.StageLemmas.{has-kind}
 use Rattle.yr_resolving.proofs.UseLemmas.{sound-strings}
 use Rattle.yr_resolving.proofs.WalkLemmas.{stages}
 
@@ -79,18 +79,6 @@ module _ (given : Given) (p : PlacedRule) where
   pub exact-node : (exact : Bool) (n : NodeTree) → exact ≡ true → Some n ≡ shape_of exact given.readers (around given p) p.rule.condition [] → rule_node given p ≡ Some n
   exact-node exact n t e =
       sym (e ∙ ap (λ b. shape_of b given.readers (around given p) p.rule.condition []) t ∙ shape-exact given.readers (around given p) p.rule.condition [])
-
-  -- ---- where numbers are not exact, the rules are too heavy
-
-  pub inexact-heavy : (b n k : ℕ) → (nat_le (b + n) 65535 && nat_le k 1048576) ≡ false → b ≡ first_string_of p → n ≡ length p.rule.strings → k ≡ length given.externals
-      → first (late_fault given p) checks ≡ None → weight_fault given p ≡ Some (at_rule p check.Weight (finding code.TooHeavy []))
-  inexact-heavy b n k e own strings externals h =
-      let few = (few-counts given p h).1 in
-      let small : b + n ≤ 65535 = omega (arith, few, own, strings) in
-      let tested : nat_le (b + n) 65535 ≡ true = grind (arith, small) in
-      let other : nat_le k 1048576 ≡ false = sym (ap (λ t. t && nat_le k 1048576) tested) ∙ e in
-      let many : 1048576 < k = grind (arith, other) in
-      too-many given p (omega (arith, many, externals))
 
 -- an explanation of one fault is one of what is the same
 pub explains-same : (e : ResolveFault) (o q : Option PlainRefusal) → o ≡ q → Explains e o → Explains e q

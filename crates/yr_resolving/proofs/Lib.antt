@@ -6,5 +6,6 @@ pub mod UseLemmas
 pub mod StageLemmas
 pub mod AroundLemmas
 pub mod JudgeLemmas
+pub mod LightLemmas
 pub mod WalkedLemmas
 pub mod FinishLemmas

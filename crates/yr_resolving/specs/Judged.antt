@@ -6,12 +6,13 @@ use Rattle.yr_rules.specs.Rules.{rule_of as checked_rule_of, string_of as checke
 use Rattle.yr_rules.specs.Weight.{weight_of}
 use Rattle.yr_types.specs.declared.check.Check.{Check}
 use Rattle.yr_types.specs.declared.check.Check.TheVariants as check
+use Rattle.yr_types.specs.declared.refusal.Code.TheVariants as code
 use Rattle.yr_resolving.specs.declared.judging.Before.{Before}
 use Rattle.yr_resolving.specs.declared.judging.Made.{Made}
 use Rattle.yr_types.specs.declared.refusal.ResolveFault.{ResolveFault}
 use Rattle.yr_types.specs.declared.refusal.ResolveFault.TheVariants as fault
 use Rattle.yr_types.specs.Sources.{Rule, PlacedRule, number_of, first_string_of}
-use Rattle.yr_types.specs.Given.{Given}
+use Rattle.yr_types.specs.Given.{Given, finding}
 use Rattle.yr_types.specs.Checked.{checked_rule, checked_rules, checked_strings}
 use Rattle.yr_types.specs.Checks.{rule_finding, wildcards}
 use Rattle.yr_types.specs.Refusals.{PlainRefusal, at_rule, checks, refusal_of}
@@ -24,6 +25,10 @@ rule_fault given p c = option_map (at_rule p c) (rule_finding given p c)
 -- why the rules are too heavy up to a rule
 abbrev pub weight_fault : Given → PlacedRule → Option PlainRefusal
 weight_fault given p = rule_fault given p check.Weight
+
+-- they are
+abbrev pub IsTooHeavy : Given → PlacedRule → Type 0
+IsTooHeavy given p = weight_fault given p ≡ Some (at_rule p check.Weight (finding code.TooHeavy []))
 
 -- the first of the later checks that fails
 abbrev pub rest_fault : Given → PlacedRule → Option PlainRefusal

@@ -1,9 +1,8 @@
 //! The checks on a rule, and the checked rule where none fails.
 
-ghost use Rattle.std.specs.Prelude.{◌≡◌, ◌<◌, ◌≤◌, ◌+◌, ◌-◌, ◌^◌, ◌&&◌, nat_le, [], IfOk, IfErr, OnOk, Some, None, length, map, min};
+ghost use Rattle.std.specs.Prelude.{◌≡◌, ◌≤◌, ◌+◌, ◌-◌, ◌^◌, [], IfOk, IfErr, MatchOption, OnOk, Some, None, length, map, min};
 ghost use Rattle.std.specs.Option.{option_map, option_and_then};
 ghost use Rattle.yr_nodes.specs.Fixed.{the_readers};
-ghost use Rattle.yr_nodes.specs.Shapes.{shape_of};
 ghost use Rattle.yr_rules.specs.NodeTree.{tree_of as node_tree};
 ghost use Rattle.yr_numbered.specs.Names.{first};
 ghost use Rattle.yr_rules.specs.Kinds.{kind_of};
@@ -14,7 +13,7 @@ ghost use Rattle.yr_resolving.specs.AtHand.{IsAtHand, given_at, placed_at};
 ghost use Rattle.yr_types.specs.Checked as checked;
 ghost use Rattle.yr_findings.specs.Findings.{finding_of, IsSoundString};
 ghost use Rattle.yr_types.specs.Given.{around, finding, rule_uses, rule_node, string_names as names_of};
-ghost use Rattle.yr_resolving.specs.Judged.{IsBefore, IsMade, Explains, rule_fault, weight_fault, rest_fault};
+ghost use Rattle.yr_resolving.specs.Judged.{IsBefore, IsMade, IsTooHeavy, Explains, rule_fault, weight_fault, rest_fault};
 ghost use Rattle.yr_types.specs.Patterns as patterns;
 ghost use Rattle.yr_types.specs.Refusals.{at_rule, checks};
 ghost use Rattle.yr_types.specs.Sources.{AtRule, first_string_of, number_of, up_to};
@@ -23,16 +22,17 @@ ghost use Rattle.yr_uses.specs.Around.{around_of};
 
 use crate::at_hand::AtHand;
 use crate::late::Examined;
+use crate::light::{WEIGHT_LIMIT, first_node, light_node, when_made};
 use crate::refusing::refuse_rule;
 use crate::stages::{CHECKS, Fault, first_early, first_late};
 use std::alloc::Global;
 use yr_base::NoMemory;
 use yr_findings::{
     Named, StringFindings, checked_strings, copy_bytes, copy_meta, copy_tags,
-    first_expression_findings, first_unused, found, string_findings, string_names, wildcards,
+    first_expression_findings, first_unknown_name, first_unknown_string, first_unused, found,
+    string_findings, string_names, wildcards,
 };
 use yr_kinds::{condition_kind, condition_weight, meta_weight, tags_weight};
-use yr_nodes::condition_node;
 use yr_numbered::{Name, Numbered};
 use yr_rules::{CheckedRule, CheckedString, External, Kind, Node};
 use yr_types::{Check, Code, ResolveFault};
@@ -80,14 +80,6 @@ fn rule_around<'c, 'a>(
     }
 }
 
-/// Whether strings and externals are few enough to be numbered: else there are too many strings or the externals are too heavy.
-fn is_exact(at: &AtHand<'_, '_>, before: &Before) -> bool
-    requires { before.now.strings ≤ 65535 }
-    ensures { result ≡ (nat_le (before.now.strings + length at.now.rule.now.strings.items) 65535 && nat_le (length at.now.externals.now) 1048576) }
-{
-    at.rule.strings.len() <= 65535 - before.strings && at.externals.len() <= 1_048_576
-}
-
 fn node_kind(externals: &[External], node: &Option<Node>) -> Option<Kind>
     ensures { result ≡ option_and_then (λ n. kind_of (map external_of externals.now) n []) (option_map node_tree node.now) }
 {
@@ -129,17 +121,21 @@ fn later_fault<'a>(
     requires kind { kind ≡ option_and_then (λ n. kind_of (given_at at.now).externals n []) (rule_node (given_at at.now) (placed_at at.now)) }
     ensures { IfOk result (λ o. option_map (fault_at (placed_at at.now)) o ≡ first (late_fault (given_at at.now) (placed_at at.now)) checks) }
 {
-    let expressions = first_expression_findings(alloc, uses.items())?;
-    let unused = first_unused(alloc, uses.items(), strings)?;
+    let used = uses.items();
+    let expressions = first_expression_findings(alloc, used)?;
+    let unknown_string = first_unknown_string(alloc, strings, used)?;
+    let unknown_name = first_unknown_name(alloc, &at.space.rules, used)?;
+    let unused = first_unused(alloc, used, strings)?;
     let examined = Examined {
         at,
-        strings,
         uses,
         bad_hex: findings.bad_hex,
         bad_regex: findings.bad_regex,
         large: findings.large,
         bad_use: expressions.bad,
         large_use: expressions.large,
+        unknown_string,
+        unknown_name,
         unused,
         kind,
         rules_before: before.rules,
@@ -182,9 +178,6 @@ fn checked_rule(
         condition,
     })
 }
-
-/// The heaviest that rules may be.
-pub const WEIGHT_LIMIT: u64 = 33_554_432;
 
 /// What is kept of a rule at which no check but the weight can fail.
 fn make<'a>(
@@ -265,35 +258,29 @@ fn weigh_exact<'a>(
     Ok(made)
 }
 
-/// The check of the weight, and what is kept of the rule where it passes.
+/// The check of the weight, and what is kept of the rule where it passes. There is no condition where the rule is seen to be too heavy without it.
 fn weigh<'a>(
     alloc: Global,
     at: &AtHand<'_, 'a>,
     before: &Before,
     uses: &Uses<'a>,
     strings_weight: u64,
-    exact: bool,
     node: Option<Node>,
 ) -> Result<Made<'a>, ResolveFault>
     requires before { IsBefore (given_at at.now) (placed_at at.now) before.now }
     requires sound { Each IsSoundString (placed_at at.now).rule.strings }
-    requires exact { exact ≡ (nat_le (before.now.strings + length at.now.rule.now.strings.items) 65535 && nat_le (length at.now.externals.now) 1048576) }
     requires uses { uses.now ≡ rule_uses (given_at at.now) (placed_at at.now) }
     requires strings_weight { strings_weight ≡ min (total weight_of_string (checked.checked_strings (given_at at.now) (placed_at at.now))) (2 ^ 64 - 1) }
-    requires node { option_map node_tree node ≡ shape_of exact the_readers (around (given_at at.now) (placed_at at.now)) (placed_at at.now).rule.condition [] }
+    requires node { MatchOption node (IsTooHeavy (given_at at.now) (placed_at at.now)) (λ n. rule_node (given_at at.now) (placed_at at.now) ≡ Some (node_tree n)) }
     requires passed { first (late_fault (given_at at.now) (placed_at at.now)) checks ≡ None }
     ensures made { IfOk result (IsMade (given_at at.now) (placed_at at.now)) }
     ensures passed { OnOk result (weight_fault (given_at at.now) (placed_at at.now) ≡ None) }
     ensures refused { IfErr result (λ e. Explains e (weight_fault (given_at at.now) (placed_at at.now))) }
 {
-    if !exact {
-        drop(node);
-        return Err(too_heavy(alloc, at, before));
+    match node {
+        Some(condition) => weigh_exact(alloc, at, before, uses, strings_weight, condition),
+        None => Err(too_heavy(alloc, at, before)),
     }
-    let Some(condition) = node else {
-        unreachable!();
-    };
-    weigh_exact(alloc, at, before, uses, strings_weight, condition)
 }
 
 /// The checks that look at patterns and the condition, of a rule whose strings have these names.
@@ -314,13 +301,16 @@ fn judge_named<'c, 's, 'a>(
 {
     let around = rule_around(at, strings, before.strings as u32);
     let uses = condition_uses(alloc, &around, &at.rule.condition)?;
-    let exact = is_exact(at, before);
-    let node = condition_node(alloc, exact, &around, &at.rule.condition)?;
+    let sets = when_made(&around, &uses);
+    let node = first_node(alloc, at, &around, sets)?;
     let findings = string_findings(alloc, &at.rule.strings, before.rules as u32)?;
     let kind = node_kind(at.externals, &node);
     match later_fault(alloc, at, before, strings, &uses, findings, kind)? {
         Some(fault) => Err(refusal(alloc, at, before, fault)),
-        None => weigh(alloc, at, before, &uses, findings.weight, exact, node),
+        None => {
+            let node = light_node(alloc, at, &around, sets, node)?;
+            weigh(alloc, at, before, &uses, findings.weight, node)
+        }
     }
 }
 

@@ -9,11 +9,7 @@ ghost use Rattle.yr_resolving.specs.Late.{IsExamined};
 ghost use Rattle.yr_resolving.specs.Stages.{late_finding};
 
 use crate::at_hand::AtHand;
-use yr_findings::{
-    Finding, Named, first_unknown_name, first_unknown_string, found, some_deep, some_long,
-    where_true,
-};
-use yr_numbered::Numbered;
+use yr_findings::{Finding, Named, found, some_deep, some_long, where_true};
 use yr_rules::Kind;
 use yr_types::{Check, Code};
 use yr_uses::Uses;
@@ -22,7 +18,6 @@ use yr_uses::Uses;
 #[derive(Drop)]
 pub struct Examined<'c, 'a> {
     pub at: &'c AtHand<'c, 'a>,
-    pub strings: &'c Numbered<'a>,
     pub uses: &'c Uses<'a>,
     /// The first findings on the strings' patterns.
     pub bad_hex: Option<Finding<'a>>,
@@ -31,6 +26,9 @@ pub struct Examined<'c, 'a> {
     /// The same of the condition's expressions.
     pub bad_use: Option<Finding<'a>>,
     pub large_use: Option<Finding<'a>>,
+    /// The first token of the condition that means no string, and the first word that means nothing.
+    pub unknown_string: Option<Named<'a>>,
+    pub unknown_name: Option<Named<'a>>,
     /// The first string that the condition does not use.
     pub unused: Option<Named<'a>>,
     /// The kind of the condition's value.
@@ -68,14 +66,8 @@ pub fn late_check<'a>(examined: &Examined<'_, 'a>, check: Check) -> Option<Findi
         Check::HexStrings => examined.bad_hex,
         Check::Expressions => examined.bad_regex.or(examined.bad_use),
         Check::Sizes => examined.large.or(examined.large_use),
-        Check::StringsUsed => naming(
-            Code::UnknownString,
-            first_unknown_string(examined.strings, uses),
-        ),
-        Check::NamesUsed => naming(
-            Code::UnknownName,
-            first_unknown_name(&examined.at.space.rules, uses),
-        ),
+        Check::StringsUsed => naming(Code::UnknownString, examined.unknown_string),
+        Check::NamesUsed => naming(Code::UnknownName, examined.unknown_name),
         Check::Kinds => where_true(examined.kind.is_none(), Code::WrongType),
         Check::UnusedStrings => naming(Code::UnusedString, examined.unused),
         Check::LoopDepth => where_true(some_deep(uses), Code::LoopDepth),

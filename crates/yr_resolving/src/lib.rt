@@ -5,6 +5,7 @@ mod at_hand;
 mod early;
 mod judging;
 mod late;
+mod light;
 mod refusing;
 mod resolving;
 mod space;

@@ -14,7 +14,7 @@ ghost use Rattle.yr_findings.specs.Placed.{item_at};
 ghost use Rattle.yr_resolving.specs.Walked.{IsSetting, IsWalked, fault_in, given_in};
 ghost use Rattle.yr_values.specs.Names.{names_shown};
 
-use crate::judging::WEIGHT_LIMIT;
+use crate::light::WEIGHT_LIMIT;
 use crate::refusing::refuse_end;
 use crate::walking::{Setting, Walk, first_walk, walk_item};
 use std::alloc::Global;

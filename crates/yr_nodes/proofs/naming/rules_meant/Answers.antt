@@ -1,18 +1,20 @@
 use Rattle.std.proofs.Common.{◌≡◌, ◌<◌, length, rules, ◌∙◌, ◌++◌, ◌∷◌, [], ap, map, get_or}
 use Rattle.std.specs.Prelude.{if◌then◌else◌}
 use Rattle.yr_syntax.specs.Condition.{item_of}
+use Rattle.yr_numbered.specs.Names.{is_meant}
 use Rattle.yr_nodes.proofs.NumberLemmas.{rules-step, then-in, else-in}
-use Rattle.yr_nodes.proofs.naming.rules_meant.Goals.{then-is_meant+in_ok-push, else-is_meant}
+use Rattle.yr_nodes.proofs.naming.rules_meant.Goals.{then-means+in_ok-push, else-means}
 use Rattle.yr_nodes.proofs.naming.rules_meant.Goals as goal
 
 pub loop-place-preserved : goal.loop-place-preserved
 loop-place-preserved c =
     let h : c.loop-place.place < length c.args.rules.now = search rules in
     let met = c.loop-place.met.items in
+    let asked : c.means.result ≡ is_meant (map item_of c.args.items.now) c.name.result.now = search rules in
     let more = met ++ get_or c.args.numbers.now c.loop-place.place 0 ∷ [] in
-    let new : c.if-is_meant.met.items ≡ (if c.is_meant.result then more else met) = elim c.if-is_meant.branch [
-      | then-is_meant+in_ok-push w ↦ then-in c.is_meant.result c.if-is_meant.met.items more met w.if-is_meant.true (ap (λ v. v.items) w.met-is ∙ w.in_ok-push.ensures.items)
-      | else-is_meant w ↦ else-in c.is_meant.result c.if-is_meant.met.items more met w.if-is_meant.false (ap (λ v. v.items) w.met-is)
+    let new : c.if-means.met.items ≡ (if c.means.result then more else met) = elim c.if-means.branch [
+      | then-means+in_ok-push w ↦ then-in c.means.result c.if-means.met.items more met w.if-means.true (ap (λ v. v.items) w.met-is ∙ w.in_ok-push.ensures.items)
+      | else-means w ↦ else-in c.means.result c.if-means.met.items more met w.if-means.false (ap (λ v. v.items) w.met-is)
     ] in
-    rules-step (map item_of c.args.items.now) c.args.rules.now c.args.numbers.now c.loop-place.place c.name.result.now c.is_meant.result met c.if-is_meant.met.items c.requires h c.name.ensures
-    c.is_meant.ensures new c.loop-place.invariant
+    rules-step (map item_of c.args.items.now) c.args.rules.now c.args.numbers.now c.loop-place.place c.name.result.now c.means.result met c.if-means.met.items c.requires h c.name.ensures
+    asked new c.loop-place.invariant

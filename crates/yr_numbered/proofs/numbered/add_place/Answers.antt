@@ -1,4 +1,4 @@
-use Rattle.std.proofs.Common.{rules, ◌≡◌, ◌∙◌, sym, ap, false}
+use Rattle.std.proofs.Common.{rules, ◌≡◌, ◌∙◌, sym, false}
 use Rattle.yr_numbered.proofs.PlaceLemmas.{place-is-added}
 use Rattle.yr_numbered.proofs.numbered.add_place.Goals as goal
 

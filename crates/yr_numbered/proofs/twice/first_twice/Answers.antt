@@ -1,6 +1,6 @@
-use Rattle.std.proofs.Common.{rules, ◌≡◌, ◌∙◌, ◌-◌, ◌∷◌, ap, sym, arith, true, false, drop, Bor, List, ℕ, refl}
+use Rattle.std.proofs.Common.{rules, ◌≡◌, ◌∙◌, ◌-◌, ◌∷◌, ap, sym, arith, true, false, drop, Bor, List, ℕ}
 use Rattle.std.specs.Option.{option_map}
-use Rattle.yr_numbered.specs.Names.{first_twice, has}
+use Rattle.yr_numbered.specs.Names.{first_twice}
 use Rattle.yr_numbered.proofs.TwiceLemmas.{drop-at, twice-later, twice-found}
 use Rattle.yr_numbered.proofs.twice.first_twice.Goals as goal
 use Rattle.yr_numbered.proofs.twice.first_twice.Goals.{then-has, else-has}

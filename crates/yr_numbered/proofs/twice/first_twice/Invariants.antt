@@ -1,4 +1,4 @@
-use Rattle.std.proofs.Common.{◌≡◌, ◌≤◌, length, drop, ℕ, List}
+use Rattle.std.proofs.Common.{◌≡◌, ◌≤◌, length, drop}
 use Rattle.std.specs.Option.{option_map}
 use Rattle.yr_numbered.specs.Names.{Name, has, first_twice}
 use Rattle.yr_numbered.proofs.twice.first_twice.Given as goal

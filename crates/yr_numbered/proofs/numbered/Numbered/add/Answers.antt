@@ -1,4 +1,4 @@
-use Rattle.std.proofs.Common.{rules, ◌≡◌, ◌++◌, ◌∷◌, [], ◌∙◌, sym, ap, subst, map, length, Bor, List, ℕ, arith}
+use Rattle.std.proofs.Common.{◌≡◌, ◌++◌, ◌∷◌, [], ◌∙◌, sym, ap, subst, map, length, Bor, List, ℕ, arith}
 use Rattle.yr_numbered.specs.Places.{ArePlaces}
 use Rattle.yr_numbered.proofs.NameLemmas.{length-map'}
 use Rattle.yr_numbered.proofs.PlaceLemmas.{places-added}

@@ -1,4 +1,4 @@
-use Rattle.std.proofs.Common.{◌≡◌, ◌∙◌, ap}
+use Rattle.std.proofs.Common.{◌∙◌, ap}
 use Rattle.std.specs.Prelude.{is_some}
 use Rattle.yr_numbered.proofs.PlaceLemmas.{place-has}
 use Rattle.yr_numbered.proofs.numbered.Numbered.has.Goals as goal

@@ -1,4 +1,4 @@
-use Rattle.std.proofs.Common.{◌≡◌, sym, ap, ◌∙◌, Bor, List, ℕ, map}
+use Rattle.std.proofs.Common.{ap, ◌∙◌, Bor, List, ℕ, map}
 use Rattle.yr_numbered.specs.Places.{with_name}
 use Rattle.yr_numbered.proofs.NameLemmas.{with_name-map}
 use Rattle.yr_numbered.proofs.table.Table.add.Goals as goal

@@ -1,4 +1,4 @@
-use Rattle.std.proofs.Common.{◌≡◌, sym, ap, ◌∙◌, Bor, List, ℕ}
+use Rattle.std.proofs.Common.{sym, ap, ◌∙◌, Bor, List, ℕ}
 use Rattle.std.specs.Str.{bytes_eq}
 use Rattle.yr_numbered.specs.Names.{has}
 use Rattle.yr_numbered.proofs.NameLemmas.{any-map}
