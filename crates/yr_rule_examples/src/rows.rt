@@ -132,9 +132,23 @@ const CONDITIONS: &str = r#"
     rule a { strings: $a = "x" condition: @a["x"] == 1 } => 13 WrongType 0:1 0;
     rule a { strings: $a = "x" condition: "x" of them } => 13 WrongType 0:1 0;
     rule a { condition: uint8("x") == 1 } => 13 WrongType 0:1 0;
-    rule a { condition: for any i in (1, "x") : ( true ) } => 13 WrongType 0:1 0;
-    rule a { condition: for any i in (1..2) : ( for any j in (1..2) : ( for any k in (1..2) : ( for any l in (1..2) : ( true ) ) ) ) } => 1 0;
-    rule a { condition: for any i in (1..2) : ( for any j in (1..2) : ( for any k in (1..2) : ( for any l in (1..2) : ( for any m in (1..2) : ( true ) ) ) ) ) } => 15 LoopDepth 0:1 0
+    rule a { condition: for any i in (1, "x") : ( true ) } => 13 WrongType 0:1 0
+"#;
+
+/// What rules may have at most.
+const LIMITS: &str = r#"
+    rule a { condition: |for any i in (1..2) : ( |4| true |)|4| } => 1 0;
+    rule a { condition: |for any i in (1..2) : ( |5| true |)|5| } => 15 LoopDepth 0:1 0;
+    rule a { strings: $a = "x" condition: |for any of them : ( |5| for any i in (1|, 1|128|) : ( $ ) |)|5| } => 15 LoopDepth 0:1 0;
+    rule a { condition: for any i in (1|, @|127|) : ( i == 1 ) } => 1 0;
+    rule a { condition: for any i in (1|, @|128|) : ( i == 1 ) } => 16 ListTooLong 0:1 0;
+    rule a { strings: |$ = "x" |65535| condition: all of them } => 1 65535;
+    rule a { strings: |$ = "x" |65536| condition: all of them } => 17 TooMany 0:1 0;
+    rule b { strings: $a = "x" condition: $a } rule a { strings: |$ = "x" |65535| condition: all of them } => 17 TooMany 0:1 1;
+    |rule r@ { condition: true } |65535| => 65535 0;
+    |rule r@ { condition: true } |65536| => 17 TooMany 0:1 65535;
+    rule a { meta: m = "|x|193|" strings: $a = "|y|65471|" xor $b = "|y|65471|" xor condition: any of them } => 1 2;
+    rule a { meta: m = "|x|194|" strings: $a = "|y|65471|" xor $b = "|y|65471|" xor condition: any of them } => 18 TooHeavy 0:1 0
 "#;
 
 /// Where the words give no externals: rules may have their names. And what the parser refuses.
@@ -175,6 +189,15 @@ fn rule_files_are_checked(rt: HostRuntime) -> Result<(), Fail> {
         assert_eq!(rt; wrong.as_str(), "");
     }
     let wrong = first_wrong(alloc, ALONE, &[])?;
+    assert_eq!(rt; wrong.as_str(), "");
+    Ok(())
+}
+
+#[test]
+fn limits_are_kept(rt: HostRuntime) -> Result<(), Fail> {
+    let alloc = rt.alloc();
+    let given = externals(alloc)?;
+    let wrong = first_wrong(alloc, LIMITS, &given)?;
     assert_eq!(rt; wrong.as_str(), "");
     Ok(())
 }
