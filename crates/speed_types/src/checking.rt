@@ -1,0 +1,47 @@
+//! The checks on a text.
+
+ghost use Rattle.std.specs.Prelude.{IfOk};
+ghost use Rattle.yr_types.specs.Resolving.{IsUnit};
+ghost use Rattle.yr_types.specs.Sources.{unit_of};
+
+use anyhow::bail;
+use std::alloc::Global;
+use yr_base::MemoryStore;
+use yr_lexer::gather;
+use yr_parser::parse;
+use yr_resolving::resolve;
+use yr_types::{CheckedRules, ModuleNames, Unit};
+
+const NAME: &str = "made.yar";
+
+/// A rule file in the namespace of those that name none.
+#[tactic(auto, using(crate::proofs::UnitLemmas::default_word))]
+pub fn declarations(alloc: Global, text: &[u8]) -> anyhow::Result<Unit>
+    ensures { IfOk result (λ u. IsUnit (unit_of u)) }
+{
+    let Ok(mut store) = MemoryStore::new(alloc) else {
+        bail!("no memory");
+    };
+    let Ok(()) = store.add(alloc, NAME, text) else {
+        bail!("no memory");
+    };
+    let tokens = gather(alloc, &mut store, NAME)?;
+    Ok(Unit {
+        namespace: Vec::from_slice(alloc, b"default")?,
+        decls: parse(alloc, &tokens)?,
+    })
+}
+
+/// The checked rules of one file.
+#[tactic(auto, using(crate::proofs::UnitLemmas::one_unit, crate::proofs::UnitLemmas::no_externals))]
+pub fn checked(alloc: Global, unit: Unit) -> anyhow::Result<CheckedRules>
+    requires { IsUnit (unit_of unit) }
+{
+    let mut units = Vec::new(alloc);
+    units.push(unit)?;
+    let names = ModuleNames {
+        modules: Vec::new(alloc),
+    };
+    let rules = resolve(alloc, &units, &names, &[])?;
+    Ok(rules)
+}

@@ -1,0 +1,41 @@
+//! The checks on a text.
+
+use anyhow::bail;
+use std::alloc::Global;
+use yr_base::MemoryStore;
+use yr_elf::elf_names;
+use yr_lexer::gather;
+use yr_parser::parse;
+use yr_resolving::resolve;
+use yr_types::{ResolveFault, Unit};
+
+const NAME: &str = "deep.yar";
+
+/// Whether the checks pass, or the one that refuses the text.
+#[tactic(auto, using(crate::proofs::UnitLemmas::default_word, crate::proofs::UnitLemmas::one_unit, crate::proofs::UnitLemmas::no_externals))]
+pub fn said(alloc: Global, text: &[u8]) -> anyhow::Result<String> {
+    let Ok(mut store) = MemoryStore::new(alloc) else {
+        bail!("no memory");
+    };
+    let Ok(()) = store.add(alloc, NAME, text) else {
+        bail!("no memory");
+    };
+    let tokens = gather(alloc, &mut store, NAME)?;
+    let Ok(names) = elf_names(alloc) else {
+        bail!("no memory");
+    };
+    let decls = parse(alloc, &tokens)?;
+    let mut units = Vec::new(alloc);
+    units.push(Unit {
+        namespace: Vec::from_slice(alloc, b"default")?,
+        decls,
+    })?;
+    match resolve(alloc, &units, &names, &[]) {
+        Ok(_) => Ok(String::from_str(alloc, "checked")?),
+        Err(ResolveFault::Refused(refusal)) => {
+            let check = refusal.check;
+            Ok(format!(in alloc; "refused by check {check}")?)
+        }
+        Err(ResolveFault::NoMemory) => bail!("no memory"),
+    }
+}
