@@ -7,3 +7,5 @@ mod elf_files;
 mod encoding;
 #[cfg(test)]
 mod patterns;
+#[cfg(test)]
+mod rule_files;

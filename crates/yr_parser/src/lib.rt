@@ -27,8 +27,6 @@ mod sign;
 mod spelling;
 mod strings;
 mod test;
-#[cfg(test)]
-mod tests;
 
 pub use answering::tokens_have_an_answer;
 pub use fault::ParseFault;

@@ -1,8 +1,10 @@
-use crate::{ParseFault, parse};
+//! Conditions and declarations, read from the text of rule files.
+
 use std::alloc::{AllocError, Global};
 use std::test::Fail;
 use yr_base::MemoryStore;
 use yr_lexer::gather;
+use yr_parser::{ParseFault, parse};
 use yr_syntax::{Cond, Decl, Over, Quant, SetRef};
 
 const SAMPLE: &str = r##"import "elf"
