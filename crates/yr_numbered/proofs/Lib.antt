@@ -3,3 +3,8 @@ pub mod PlaceLemmas
 pub mod TwiceLemmas
 pub mod FrontLemmas
 pub mod WantedLemmas
+pub mod MeantLemmas
+pub mod OrderLemmas
+pub mod RangeLemmas
+pub mod CountLemmas
+pub mod ItemLemmas

@@ -5,8 +5,11 @@ mod front;
 mod item;
 mod name;
 mod numbered;
+mod order;
+mod ranges;
 mod table;
 mod twice;
+mod walk;
 mod wanted;
 
 pub use front::has_front;
