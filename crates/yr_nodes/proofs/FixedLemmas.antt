@@ -1,5 +1,5 @@
 -- The fixed readers read by the definitions, so all readers that do are the same.
-use Rattle.std.proofs.Common.{◌≡◌, ℕ, List, Bool, Result, sym, ap, ◌∙◌}
+use Rattle.std.proofs.Common.{◌≡◌, ℕ, List, Bool, Result, ap, ◌∙◌}
 use Rattle.std.proofs.Math.Path.{fun_ext}
 use Rattle.yr_pattern.specs.Tree.{Tree}
 use Rattle.yr_nodes.specs.Readers.{Readers, Read, HexRefusal, RegexRefusal, Expression}

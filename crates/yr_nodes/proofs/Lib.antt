@@ -3,7 +3,6 @@ pub mod FixedLemmas
 pub mod LowLemmas
 pub mod ShapeLemmas
 pub mod NumberLemmas
-pub mod CountLemmas
 pub mod PartLemmas
 pub mod MadeLemmas
 pub mod WalkLemmas

@@ -1,5 +1,5 @@
 -- Parts that are there, and runs of prefix operators.
-use Rattle.std.proofs.Common.{◌≡◌, ℕ, zero, suc, ◌<◌, Bool, List, [], ◌∷◌, ◌++◌, length, map, refl, sym, ap, ◌∙◌, arith, Some, None, Option}
+use Rattle.std.proofs.Common.{◌≡◌, ℕ, zero, suc, ◌<◌, Bool, List, [], ◌∷◌, ◌++◌, length, map, sym, ap, ◌∙◌, arith, Some, None, Option}
 use Rattle.std.specs.Option.{option_map}
 use Rattle.yr_syntax.specs.declared.operator.PrefixOp.{PrefixOp}
 use Rattle.yr_syntax.specs.Condition as tree

@@ -1,5 +1,5 @@
 -- Parts of conditions, one after another.
-use Rattle.std.proofs.Common.{◌≡◌, ℕ, ◌+◌, ◌≤◌, Bool, true, false, List, [], ◌∷◌, ◌++◌, map, refl, sym, ap, ◌∙◌, arith, Some, None, Option}
+use Rattle.std.proofs.Common.{◌≡◌, ◌≤◌, Bool, List, [], ◌∷◌, ◌++◌, refl, sym, ap, ◌∙◌, arith, Some, None, Option}
 use Rattle.std.specs.Option.{option_map}
 use Rattle.yr_syntax.specs.declared.operator.Infix.{Infix}
 use Rattle.yr_syntax.specs.declared.operator.PrefixOp.{PrefixOp}

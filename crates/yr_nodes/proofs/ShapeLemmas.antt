@@ -1,13 +1,10 @@
 -- What the code makes of a condition: the checked condition itself, or one of its shape, which has the same kinds.
-use Rattle.std.proofs.Common.{◌≡◌, ℕ, suc, ◌+◌, Bool, true, false, List, [], ◌∷◌, map, refl, sym, ap, ◌∙◌, Some, None, Option, Result, Ok, Err}
-use Rattle.std.specs.Prelude.{pos}
+use Rattle.std.proofs.Common.{◌≡◌, ℕ, Bool, true, false, List, [], ◌∷◌, map, refl, ap, ◌∙◌, Some, None, Option}
 use Rattle.std.specs.Option.{option_map, option_or, option_and_then}
 use Rattle.yr_base.specs.declared.value.Kind.{Kind}
 use Rattle.yr_base.specs.declared.value.Kind.TheVariants as kind
-use Rattle.yr_pattern.specs.Tree as pattern
 use Rattle.yr_syntax.specs.Condition as tree
 use Rattle.yr_syntax.specs.Condition.{Condition, Links, Steps, Items, Where, Asked, Domain}
-use Rattle.yr_rules.specs.declared.members.StringRef.{StringRef}
 use Rattle.yr_rules.specs.Kinds.{kind_of, links_kind, place_kind, asked_kind, loop_asked_kind, domain_kind, items_kind, external_kind, own_index, place_fits, loop_fits, of_number, of_numbers, of_text, of_value, both, where_true, prefix_kind, infix_kind}
 use Rattle.yr_rules.specs.Loops as loop
 use Rattle.yr_rules.specs.Loops.{Loop, loop_over}
@@ -15,9 +12,9 @@ use Rattle.yr_rules.specs.NodeTree.{NodeTree, NodeLinks, NodeItems, NodeWhere, N
 use Rattle.yr_rules.specs.Rules.{PlainExternal}
 use Rattle.yr_uses.specs.Meanings as meaning
 use Rattle.yr_uses.specs.Meanings.{Around, Scope, Meaning, Index, NoIndex, OfLoop, Written, meaning_of, path_meaning, then_name, then_index, then_call, count_of, opened}
-use Rattle.yr_nodes.specs.Readers.{Readers, Expression, RegexRefusal, expression_of}
+use Rattle.yr_nodes.specs.Readers.{Readers, expression_of}
 use Rattle.yr_nodes.specs.Nodes.{of_two, of_three, string_ref, set_node, regex_node, field_node, written_field, call_node, value_node, entries_node, items_node, node_of, links_node, path_node, steps_node, each_node, place_node, asked_node, domain_node}
-use Rattle.yr_nodes.specs.Shapes.{plain_ref, plain_set, kept_ref, kept_set, constant_of, kept_external, value_shape, shape_of, links_shape, path_shape, steps_shape, each_shape, place_shape, asked_shape, domain_shape}
+use Rattle.yr_nodes.specs.Shapes.{plain_ref, plain_set, constant_of, value_shape, shape_of, links_shape, path_shape, steps_shape, each_shape, place_shape, asked_shape, domain_shape}
 
 -- ---- where numbers are wanted
 

@@ -1,5 +1,5 @@
 -- One turn of each loop of the walk: what is left loses its first element, and what is made gets one more.
-use Rattle.std.proofs.Common.{◌≡◌, ℕ, suc, ◌+◌, ◌<◌, ◌≤◌, Bool, List, [], ◌∷◌, ◌++◌, length, get_or, drop, map, refl, sym, ap, subst, ◌∙◌, arith, Some, None, Option, append_assoc}
+use Rattle.std.proofs.Common.{◌≡◌, ℕ, suc, ◌+◌, ◌<◌, ◌≤◌, Bool, List, [], ◌∷◌, ◌++◌, length, get_or, drop, map, sym, ap, subst, ◌∙◌, arith, Some, None, Option, append_assoc}
 use Rattle.std.proofs.Math.Seq.{drop-cons}
 use Rattle.std.specs.Option.{option_map}
 use Rattle.std.proofs.lemmas.List.{map-append}
@@ -13,7 +13,7 @@ use Rattle.yr_syntax.specs.Height.{height, links_height, items_height, steps_hei
 use Rattle.yr_syntax.proofs.CallerLemmas as caller
 use Rattle.yr_rules.specs.declared.node.Node.{Node}
 use Rattle.yr_rules.specs.declared.node.NodeLink.{NodeLink}
-use Rattle.yr_rules.specs.NodeTree.{NodeTree, NodeLinks, NodeItems, OneLink, no_link, no_item, tree_of, link_of, links_of, items_of}
+use Rattle.yr_rules.specs.NodeTree.{NodeTree, NodeLinks, NodeItems, OneLink, tree_of, link_of, links_of, items_of}
 use Rattle.yr_rules.proofs.CallerLemmas.{link_of-same}
 use Rattle.yr_uses.specs.Meanings.{Around, Scope, Meaning}
 use Rattle.yr_uses.specs.Paths.{step_meaning}

@@ -1,7 +1,6 @@
 -- What the parts of a condition have of its forms and its height, and what paths mean step by step.
-use Rattle.std.proofs.Common.{◌≡◌, ℕ, ◌+◌, ◌≤◌, ◌^◌, Bool, true, false, List, [], ◌∷◌, length, map, refl, sym, subst, arith, Some, None, Option}
+use Rattle.std.proofs.Common.{◌≡◌, ℕ, ◌≤◌, ◌^◌, Bool, true, false, List, [], ◌∷◌, length, map, refl, sym, subst, arith}
 use Rattle.yr_rules.specs.Rules.{external_of}
-use Rattle.yr_rules.specs.declared.external.External.{External}
 use Rattle.yr_numbered.specs.Names.{Name}
 use Rattle.yr_syntax.specs.Condition as tree
 use Rattle.yr_syntax.specs.Condition.{OneStep, items_of}

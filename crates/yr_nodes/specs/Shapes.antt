@@ -1,6 +1,6 @@
 -- The checked condition that the code makes: the one that a condition stands for, or where numbers are not wanted one of its shape,
 -- in which each string has the number 0, each set is empty, and each external is a value of its kind.
-use Rattle.std.specs.Prelude.{ℕ, pos, ◌+◌, Bool, true, false, List, [], ◌∷◌, Option, Some, None, Result, Ok, Err}
+use Rattle.std.specs.Prelude.{ℕ, pos, Bool, true, false, List, [], ◌∷◌, Option, Some, None}
 use Rattle.std.specs.Option.{option_map}
 use Rattle.yr_base.specs.declared.value.Kind.{Kind}
 use Rattle.yr_base.specs.declared.value.Kind.TheVariants as kind
@@ -10,7 +10,7 @@ use Rattle.yr_syntax.specs.Condition as tree
 use Rattle.yr_syntax.specs.Condition.{Condition, Links, Steps, Items, Where, Asked, Domain}
 use Rattle.yr_rules.specs.declared.members.StringRef.{StringRef}
 use Rattle.yr_rules.specs.declared.members.StringRef.TheVariants as ref
-use Rattle.yr_rules.specs.NodeTree.{NodeTree, NodeLinks, NodeItems, NodeWhere, NodeAsked, NodeDomain, NodeSet, Number, Text, Flag, FileSize, External, RuleTruth, Var, Field, FieldAt, Call, Found, Count, CountIn, Offset, OffsetAt, Length, LengthAt, Read, Prefix, Chain, Matches, Of, ForOf, ForIn, no_link, link, no_item, item, Anywhere, At, Within, All, Any, Nil, AtLeast, Percent, OverRange, OverList, OverEntries, Strings, Rules}
+use Rattle.yr_rules.specs.NodeTree.{NodeTree, NodeLinks, NodeWhere, NodeAsked, NodeDomain, NodeSet, Number, Text, Flag, FileSize, External, Found, Count, CountIn, Offset, OffsetAt, Length, LengthAt, Read, Prefix, Chain, Matches, Of, ForOf, ForIn, no_link, link, Anywhere, At, Within, All, Any, Nil, AtLeast, Percent, OverRange, OverList, Strings, Rules}
 use Rattle.yr_nodes.specs.Nodes.{of_two, of_three, string_ref, set_node, regex_node, value_node, entries_node, items_node}
 use Rattle.yr_nodes.specs.Readers.{Readers, expression_of}
 use Rattle.yr_uses.specs.Meanings as meaning

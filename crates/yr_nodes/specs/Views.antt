@@ -1,14 +1,9 @@
 -- The parts of a checked condition that the code makes, as plain data.
-use Rattle.std.specs.Prelude.{ℕ, ◌≡◌, ◌<◌, Bool, true, false, List, [], ◌∷◌, map, Option, Some, None}
+use Rattle.std.specs.Prelude.{ℕ, ◌<◌, List, [], ◌∷◌, map, Option}
 use Rattle.std.specs.Option.{option_map}
-use Rattle.yr_base.specs.declared.value.Kind.{Kind}
-use Rattle.yr_base.specs.declared.value.Kind.TheVariants as kind
 use Rattle.yr_syntax.specs.declared.operator.PrefixOp.{PrefixOp}
 use Rattle.yr_rules.specs.declared.node.Node.{Node}
-use Rattle.yr_rules.specs.Kinds.{external_kind}
-use Rattle.yr_rules.specs.Rules.{PlainExternal}
-use Rattle.yr_rules.specs.NodeTree.{NodeTree, NodeLinks, NodeItems, OneLink, Bounds, Number, Text, Flag, External, Prefix, link, item, tree_of}
-use Rattle.yr_nodes.specs.Nodes.{of_two, value_node}
+use Rattle.yr_rules.specs.NodeTree.{NodeTree, NodeLinks, NodeItems, OneLink, Bounds, Prefix, link, item, tree_of}
 use Rattle.yr_uses.specs.Meanings as meaning
 use Rattle.yr_uses.specs.Meanings.{Meaning, Index, NoIndex, OfLoop, Written}
 

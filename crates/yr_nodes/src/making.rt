@@ -4,7 +4,7 @@ ghost use Rattle.std.specs.Prelude.{◌≡◌, IfOk, map};
 ghost use Rattle.std.specs.Option.{option_map};
 ghost use Rattle.yr_pattern.specs.Tree.{tree_of as pattern_of};
 ghost use Rattle.yr_rules.specs.NodeTree as node;
-ghost use Rattle.yr_rules.specs.NodeTree.{tree_of, asked_of, where_of, domain_of, bounds_of, links_of, link_of, items_of, set_of};
+ghost use Rattle.yr_rules.specs.NodeTree.{tree_of, asked_of, where_of, domain_of, bounds_of, links_of, link_of, items_of, set_of, boxed};
 ghost use Rattle.yr_nodes.specs.Nodes.{of_two, of_three};
 ghost use Rattle.yr_nodes.specs.Views.{bounds};
 
@@ -14,23 +14,13 @@ use yr_rules::{
     Members, Node, NodeLink, NodeOver, NodePlace, NodeQuant, NodeRange, Pattern, Reader, StringRef,
 };
 
-pub fn range_of(
-    alloc: Global,
-    low: Option<Node>,
-    high: Option<Node>,
-) -> Result<Option<NodeRange>, NoMemory>
-    ensures { IfOk result (λ r. option_map bounds_of r ≡ of_two bounds (option_map tree_of low) (option_map tree_of high)) }
+pub fn range_of(low: Option<Box<Node>>, high: Option<Box<Node>>) -> Option<NodeRange>
+    ensures { option_map bounds_of result ≡ of_two bounds (option_map tree_of (boxed low)) (option_map tree_of (boxed high)) }
 {
-    let Some(low) = low else {
-        return Ok(None);
-    };
-    let Some(high) = high else {
-        return Ok(None);
-    };
-    Ok(Some(NodeRange {
-        low: Box::new(alloc, low)?,
-        high: Box::new(alloc, high)?,
-    }))
+    match (low, high) {
+        (Some(low), Some(high)) => Some(NodeRange { low, high }),
+        _ => None,
+    }
 }
 
 pub fn found(string: Option<StringRef>, place: Option<NodePlace>) -> Option<Node>
@@ -78,24 +68,16 @@ pub fn offset(string: Option<StringRef>) -> Option<Node>
     }
 }
 
-pub fn offset_at(
-    alloc: Global,
-    string: Option<StringRef>,
-    index: Option<Node>,
-) -> Result<Option<Node>, NoMemory>
-    ensures { IfOk result (λ n. option_map tree_of n ≡ of_two node.OffsetAt string (option_map tree_of index)) }
+pub fn offset_at(string: Option<StringRef>, index: Option<Box<Node>>) -> Option<Node>
+    ensures { option_map tree_of result ≡ of_two node.OffsetAt string (option_map tree_of (boxed index)) }
 {
-    let Some(string) = string else {
-        return Ok(None);
-    };
-    let Some(index) = index else {
-        return Ok(None);
-    };
-    let index = Box::new(alloc, index)?;
-    Ok(Some(Node::Offset {
-        string,
-        index: Some(index),
-    }))
+    match (string, index) {
+        (Some(string), Some(index)) => Some(Node::Offset {
+            string,
+            index: Some(index),
+        }),
+        _ => None,
+    }
 }
 
 pub fn length(string: Option<StringRef>) -> Option<Node>
@@ -110,68 +92,43 @@ pub fn length(string: Option<StringRef>) -> Option<Node>
     }
 }
 
-pub fn length_at(
-    alloc: Global,
-    string: Option<StringRef>,
-    index: Option<Node>,
-) -> Result<Option<Node>, NoMemory>
-    ensures { IfOk result (λ n. option_map tree_of n ≡ of_two node.LengthAt string (option_map tree_of index)) }
+pub fn length_at(string: Option<StringRef>, index: Option<Box<Node>>) -> Option<Node>
+    ensures { option_map tree_of result ≡ of_two node.LengthAt string (option_map tree_of (boxed index)) }
 {
-    let Some(string) = string else {
-        return Ok(None);
-    };
-    let Some(index) = index else {
-        return Ok(None);
-    };
-    let index = Box::new(alloc, index)?;
-    Ok(Some(Node::Length {
-        string,
-        index: Some(index),
-    }))
+    match (string, index) {
+        (Some(string), Some(index)) => Some(Node::Length {
+            string,
+            index: Some(index),
+        }),
+        _ => None,
+    }
 }
 
-pub fn read(alloc: Global, reader: Reader, at: Option<Node>) -> Result<Option<Node>, NoMemory>
-    ensures { IfOk result (λ n. option_map tree_of n ≡ option_map (node.Read reader) (option_map tree_of at)) }
+pub fn read(reader: Reader, at: Option<Box<Node>>) -> Option<Node>
+    ensures { option_map tree_of result ≡ option_map (node.Read reader) (option_map tree_of (boxed at)) }
 {
-    let Some(at) = at else {
-        return Ok(None);
-    };
-    let at = Box::new(alloc, at)?;
-    Ok(Some(Node::Read { reader, at }))
+    match at {
+        Some(at) => Some(Node::Read { reader, at }),
+        None => None,
+    }
 }
 
-pub fn chain(
-    alloc: Global,
-    first: Option<Node>,
-    rest: Option<Vec<NodeLink>>,
-) -> Result<Option<Node>, NoMemory>
-    ensures { IfOk result (λ n. option_map tree_of n ≡ of_two node.Chain (option_map tree_of first) (option_map (λ ls. links_of (map link_of ls.items)) rest)) }
+pub fn chain(first: Option<Box<Node>>, rest: Option<Vec<NodeLink>>) -> Option<Node>
+    ensures { option_map tree_of result ≡ of_two node.Chain (option_map tree_of (boxed first)) (option_map (λ ls. links_of (map link_of ls.items)) rest) }
 {
-    let Some(first) = first else {
-        return Ok(None);
-    };
-    let Some(rest) = rest else {
-        return Ok(None);
-    };
-    let first = Box::new(alloc, first)?;
-    Ok(Some(Node::Chain { first, rest }))
+    match (first, rest) {
+        (Some(first), Some(rest)) => Some(Node::Chain { first, rest }),
+        _ => None,
+    }
 }
 
-pub fn matches(
-    alloc: Global,
-    text: Option<Node>,
-    pattern: Option<Pattern>,
-) -> Result<Option<Node>, NoMemory>
-    ensures { IfOk result (λ n. option_map tree_of n ≡ of_two node.Matches (option_map tree_of text) (option_map pattern_of pattern)) }
+pub fn matches(text: Option<Box<Node>>, pattern: Option<Pattern>) -> Option<Node>
+    ensures { option_map tree_of result ≡ of_two node.Matches (option_map tree_of (boxed text)) (option_map pattern_of pattern) }
 {
-    let Some(text) = text else {
-        return Ok(None);
-    };
-    let Some(pattern) = pattern else {
-        return Ok(None);
-    };
-    let text = Box::new(alloc, text)?;
-    Ok(Some(Node::Matches { text, pattern }))
+    match (text, pattern) {
+        (Some(text), Some(pattern)) => Some(Node::Matches { text, pattern }),
+        _ => None,
+    }
 }
 
 pub fn of(quant: Option<NodeQuant>, set: Members, place: Option<NodePlace>) -> Option<Node>
@@ -183,22 +140,13 @@ pub fn of(quant: Option<NodeQuant>, set: Members, place: Option<NodePlace>) -> O
     }
 }
 
-pub fn for_of(
-    alloc: Global,
-    quant: Option<NodeQuant>,
-    set: Members,
-    body: Option<Node>,
-) -> Result<Option<Node>, NoMemory>
-    ensures { IfOk result (λ n. option_map tree_of n ≡ of_two (λ q b. node.ForOf q (set_of set) b) (option_map asked_of quant) (option_map tree_of body)) }
+pub fn for_of(quant: Option<NodeQuant>, set: Members, body: Option<Box<Node>>) -> Option<Node>
+    ensures { option_map tree_of result ≡ of_two (λ q b. node.ForOf q (set_of set) b) (option_map asked_of quant) (option_map tree_of (boxed body)) }
 {
-    let Some(quant) = quant else {
-        return Ok(None);
-    };
-    let Some(body) = body else {
-        return Ok(None);
-    };
-    let body = Box::new(alloc, body)?;
-    Ok(Some(Node::ForOf { quant, set, body }))
+    match (quant, body) {
+        (Some(quant), Some(body)) => Some(Node::ForOf { quant, set, body }),
+        _ => None,
+    }
 }
 
 pub fn for_in(
@@ -206,9 +154,9 @@ pub fn for_in(
     quant: Option<NodeQuant>,
     name: &[u8],
     over: Option<NodeOver>,
-    body: Option<Node>,
+    body: Option<Box<Node>>,
 ) -> Result<Option<Node>, NoMemory>
-    ensures { IfOk result (λ n. option_map tree_of n ≡ of_three (λ q d b. node.ForIn q name.now d b) (option_map asked_of quant) (option_map domain_of over) (option_map tree_of body)) }
+    ensures { IfOk result (λ n. option_map tree_of n ≡ of_three (λ q d b. node.ForIn q name.now d b) (option_map asked_of quant) (option_map domain_of over) (option_map tree_of (boxed body))) }
 {
     let Some(quant) = quant else {
         return Ok(None);
@@ -220,7 +168,6 @@ pub fn for_in(
         return Ok(None);
     };
     let name = Vec::from_slice(alloc, name)?;
-    let body = Box::new(alloc, body)?;
     Ok(Some(Node::ForIn {
         quant,
         name,
@@ -229,31 +176,31 @@ pub fn for_in(
     }))
 }
 
-pub fn asked_number(alloc: Global, count: Option<Node>) -> Result<Option<NodeQuant>, NoMemory>
-    ensures { IfOk result (λ q. option_map asked_of q ≡ option_map node.AtLeast (option_map tree_of count)) }
+pub fn asked_number(count: Option<Box<Node>>) -> Option<NodeQuant>
+    ensures { option_map asked_of result ≡ option_map node.AtLeast (option_map tree_of (boxed count)) }
 {
-    let Some(count) = count else {
-        return Ok(None);
-    };
-    Ok(Some(NodeQuant::Number(Box::new(alloc, count)?)))
+    match count {
+        Some(count) => Some(NodeQuant::Number(count)),
+        None => None,
+    }
 }
 
-pub fn asked_percent(alloc: Global, count: Option<Node>) -> Result<Option<NodeQuant>, NoMemory>
-    ensures { IfOk result (λ q. option_map asked_of q ≡ option_map node.Percent (option_map tree_of count)) }
+pub fn asked_percent(count: Option<Box<Node>>) -> Option<NodeQuant>
+    ensures { option_map asked_of result ≡ option_map node.Percent (option_map tree_of (boxed count)) }
 {
-    let Some(count) = count else {
-        return Ok(None);
-    };
-    Ok(Some(NodeQuant::Percent(Box::new(alloc, count)?)))
+    match count {
+        Some(count) => Some(NodeQuant::Percent(count)),
+        None => None,
+    }
 }
 
-pub fn place_at(alloc: Global, at: Option<Node>) -> Result<Option<NodePlace>, NoMemory>
-    ensures { IfOk result (λ p. option_map where_of p ≡ option_map node.At (option_map tree_of at)) }
+pub fn place_at(at: Option<Box<Node>>) -> Option<NodePlace>
+    ensures { option_map where_of result ≡ option_map node.At (option_map tree_of (boxed at)) }
 {
-    let Some(at) = at else {
-        return Ok(None);
-    };
-    Ok(Some(NodePlace::At(Box::new(alloc, at)?)))
+    match at {
+        Some(at) => Some(NodePlace::At(at)),
+        None => None,
+    }
 }
 
 pub fn place_within(range: Option<NodeRange>) -> Option<NodePlace>

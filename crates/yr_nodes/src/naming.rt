@@ -1,6 +1,6 @@
 //! Strings and sets by their numbers.
 
-ghost use Rattle.std.specs.Prelude.{◌≡◌, ◌+◌, ◌*◌, ◌≤◌, ◌^◌, IfOk, length, filter, map, false};
+ghost use Rattle.std.specs.Prelude.{◌≡◌, ◌+◌, ◌*◌, ◌≤◌, ◌^◌, IfOk, length, map, false};
 ghost use Rattle.yr_nodes.specs.Room.{IsRoomy};
 ghost use Rattle.std.specs.List.{range_with_len};
 ghost use Rattle.yr_rules.specs.NodeTree.{set_of};
@@ -12,9 +12,9 @@ ghost use Rattle.yr_nodes.specs.Nodes as spec;
 ghost use Rattle.yr_nodes.specs.Shapes.{kept_ref, kept_set};
 ghost use Rattle.yr_numbered.specs.Names as names;
 
-use std::alloc::{AllocError, Global};
+use std::alloc::Global;
 use yr_base::NoMemory;
-use yr_numbered::{Numbered, Wanted};
+use yr_numbered::Numbered;
 use yr_rules::{Members, StringRef};
 use yr_syntax::{SetItem, SetRef};
 use yr_uses::{Around, Scopes};
@@ -27,14 +27,12 @@ fn numbers_meant(
     all: &Numbered<'_>,
 ) -> Result<Vec<u32>, NoMemory>
     requires { first + length all.now ≤ 2 ^ 32 }
-    ensures { IfOk result (λ met. met.items ≡ spec.numbers_meant (map item_of items.now) first all.now) }
+    ensures { IfOk result (λ met. met.items ≡ names.numbers_meant (map item_of items.now) first all.now) }
 {
-    let wanted = Wanted::new(alloc, items)?;
     let mut met = Vec::new(alloc);
-    for place in 0..all.len() {
-        if wanted.means(all.name(place)) {
-            met.push(first + place as u32)?;
-        }
+    let places = all.numbers_meant(alloc, items)?;
+    for place in &places {
+        met.push(first + *place as u32)?;
     }
     Ok(met)
 }
@@ -61,12 +59,10 @@ fn rules_meant(
     requires { length numbers.now ≡ length rules.now }
     ensures { IfOk result (λ met. met.items ≡ spec.rules_meant (map item_of items.now) (earlier_rules rules.now numbers.now)) }
 {
-    let wanted = Wanted::new(alloc, items)?;
     let mut met = Vec::new(alloc);
-    for place in 0..rules.len() {
-        if wanted.means(rules.name(place)) {
-            met.push(numbers[place])?;
-        }
+    let places = rules.numbers_meant(alloc, items)?;
+    for place in &places {
+        met.push(numbers[*place])?;
     }
     Ok(met)
 }
@@ -92,28 +88,14 @@ fn members(alloc: Global, around: &Around<'_, '_>, set: &SetRef) -> Result<Membe
     }
 }
 
-/// How many of the names the items mean.
-fn count_meant(alloc: Global, items: &[SetItem], all: &Numbered<'_>) -> Result<usize, AllocError>
-    ensures { IfOk result (λ n. n ≡ length (filter (names.is_meant (map item_of items.now)) all.now)) }
-{
-    let wanted = Wanted::new(alloc, items)?;
-    let mut count = 0;
-    for place in 0..all.len() {
-        if wanted.means(all.name(place)) {
-            count += 1;
-        }
-    }
-    Ok(count)
-}
-
-/// How many members a set has. They are counted and not made, so that what they weigh is known before they take memory.
+/// How many members a set has. Those of one set at a time are found to be counted, and none is kept.
 pub fn set_size(alloc: Global, around: &Around<'_, '_>, set: &SetRef) -> Result<usize, NoMemory>
     ensures { IfOk result (λ n. 16 * n ≡ set_weight (spec.set_node (around_of around.now) (set_tree set.now))) }
 {
     match set {
         SetRef::Them => Ok(around.strings.len()),
-        SetRef::Strings(items) => Ok(count_meant(alloc, items, around.strings)?),
-        SetRef::Rules(items) => Ok(count_meant(alloc, items, around.rules)?),
+        SetRef::Strings(items) => Ok(around.strings.numbers_meant(alloc, items)?.len()),
+        SetRef::Rules(items) => Ok(around.rules.numbers_meant(alloc, items)?.len()),
     }
 }
 
@@ -128,6 +110,7 @@ fn no_members(alloc: Global, set: &SetRef) -> Members
 }
 
 /// The members of a set, where numbers are wanted.
+#[inline(never)]
 pub fn kept_members(
     alloc: Global,
     exact: bool,
@@ -145,6 +128,7 @@ pub fn kept_members(
 }
 
 /// A string by its name, or the one at which the innermost loop over members stands.
+#[inline(never)]
 pub fn string_ref(
     exact: bool,
     around: &Around<'_, '_>,

@@ -4,7 +4,7 @@ ghost use Rattle.std.specs.Prelude.{◌≡◌, ◌+◌, ◌≤◌, ◌<◌, ◌^
 ghost use Rattle.std.specs.Bool.{OnTrue};
 ghost use Rattle.std.specs.Option.{option_map};
 ghost use Rattle.yr_pattern.specs.Tree.{tree_of as pattern_of};
-ghost use Rattle.yr_rules.specs.NodeTree.{tree_of, asked_of, where_of, domain_of, bounds_of, links_of, link_of, items_of};
+ghost use Rattle.yr_rules.specs.NodeTree.{tree_of, asked_of, where_of, domain_of, bounds_of, links_of, link_of, items_of, boxed};
 ghost use Rattle.yr_syntax.specs.Condition as tree;
 ghost use Rattle.yr_syntax.specs.Forms as forms;
 ghost use Rattle.yr_syntax.specs.Height as height;
@@ -24,7 +24,7 @@ use crate::making::{
     matches, of, offset, offset_at, over_list, over_range, place_at, place_within, range_of, read,
 };
 use crate::naming::{kept_members, string_ref};
-use crate::prefix::{prefixes, wrap};
+use crate::prefix::{prefixed, prefixes};
 use crate::reading::{RegexAnswer, regex_answer};
 use crate::valued::value;
 use std::alloc::Global;
@@ -34,6 +34,7 @@ use yr_syntax::{Cond, Link, Over, PathStep, Place, Quant, Range, RegexText};
 use yr_uses::{Around, Meaning, Scope, Scopes, opened, path_meaning, then_step, word_meaning};
 
 /// The pattern of an expression, where it can be read.
+#[inline(never)]
 fn pattern(alloc: Global, regex: &RegexText) -> Result<Option<Pattern>, NoMemory>
     requires { forms.IsShortText regex.now.text.items }
     ensures { IfOk result (λ p. option_map pattern_of p ≡ spec.regex_node (expression_of the_readers (tree.regex_of regex.now))) }
@@ -64,6 +65,7 @@ fn over_entries(meaning: Meaning<'_>) -> Option<NodeOver>
 }
 
 /// What a word means where these loops are open.
+#[inline(never)]
 fn word_start<'a>(around: &Around<'_, 'a>, word: &[u8], scopes: &Scopes<'a>) -> Meaning<'a>
     ensures means { shown result ≡ meaning_of (around_of around.now) word.now scopes.now }
     ensures known { IsLow (length scopes.now) (length around.now.externals.now) (shown result) }
@@ -71,9 +73,37 @@ fn word_start<'a>(around: &Around<'_, 'a>, word: &[u8], scopes: &Scopes<'a>) -> 
     word_meaning(around, word, scopes)
 }
 
-/// What is made of a condition where these loops are open.
+/// What is made of a condition where these loops are open. Chains nest far deeper than anything else, so they are made here, and not inside the large frame of
+/// `node_by_form`.
 #[cycle(nodes)]
+#[inline(never)]
 fn node<'a>(
+    alloc: Global,
+    exact: bool,
+    around: &Around<'_, 'a>,
+    condition: &'a Cond,
+    scopes: &mut Scopes<'a>,
+) -> Result<Option<Node>, NoMemory>
+    requires room { IsRoomy exact around.now }
+    requires forms { forms.HasForms (tree.tree_of condition.now) }
+    requires low { height.height (tree.tree_of condition.now) + length scopes.old ≤ forms.height_limit }
+    ensures scopes { OnOk result (scopes.new ≡ scopes.old) }
+    ensures node { IfOk result (λ n. option_map tree_of n ≡ shape.shape_of exact the_readers (around_of around.now) (tree.tree_of condition.now) scopes.old) }
+{
+    match condition {
+        Cond::Chain { first, rest } => {
+            let first = boxed_node(alloc, exact, around, first, scopes)?;
+            let rest = links(alloc, exact, around, rest, scopes)?;
+            Ok(chain(first, rest))
+        }
+        _ => node_by_form(alloc, exact, around, condition, scopes),
+    }
+}
+
+/// The same, form by form.
+#[cycle(nodes)]
+#[inline(never)]
+fn node_by_form<'a>(
     alloc: Global,
     exact: bool,
     around: &Around<'_, 'a>,
@@ -109,24 +139,22 @@ fn node<'a>(
         Cond::Offset { name, index } => node_offset(alloc, exact, around, name, index, scopes),
         Cond::Length { name, index } => node_length(alloc, exact, around, name, index, scopes),
         Cond::Read { reader, at } => {
-            let at = node(alloc, exact, around, at, scopes)?;
-            read(alloc, *reader, at)
+            let at = boxed_node(alloc, exact, around, at, scopes)?;
+            Ok(read(*reader, at))
         }
         Cond::Prefix { op, inner } => {
             let run = prefixes(alloc, *op, inner)?;
-            match node(alloc, exact, around, run.1, scopes)? {
-                None => Ok(None),
-                Some(operand) => Ok(Some(wrap(alloc, run.0, operand)?)),
-            }
+            let operand = boxed_node(alloc, exact, around, run.1, scopes)?;
+            prefixed(alloc, run.0, operand)
         }
         Cond::Chain { first, rest } => {
-            let first = node(alloc, exact, around, first, scopes)?;
+            let first = boxed_node(alloc, exact, around, first, scopes)?;
             let rest = links(alloc, exact, around, rest, scopes)?;
-            chain(alloc, first, rest)
+            Ok(chain(first, rest))
         }
         Cond::Matches { text, regex } => {
-            let text = node(alloc, exact, around, text, scopes)?;
-            matches(alloc, text, pattern(alloc, regex)?)
+            let text = boxed_node(alloc, exact, around, text, scopes)?;
+            Ok(matches(text, pattern(alloc, regex)?))
         }
         Cond::Of { quant, set, place } => {
             let asked = node_asked(alloc, exact, around, quant, scopes)?;
@@ -137,9 +165,9 @@ fn node<'a>(
             let asked = node_asked(alloc, exact, around, quant, scopes)?;
             let set = kept_members(alloc, exact, around, set)?;
             scopes.enter(Scope::Members)?;
-            let body = node(alloc, exact, around, body, scopes)?;
+            let body = boxed_node(alloc, exact, around, body, scopes)?;
             scopes.leave();
-            for_of(alloc, asked, set, body)
+            Ok(for_of(asked, set, body))
         }
         Cond::ForIn {
             quant,
@@ -151,14 +179,37 @@ fn node<'a>(
             let domain = node_over(alloc, exact, around, over, scopes)?;
             let inner = opened(around, name, over, scopes);
             scopes.enter(inner)?;
-            let body = node(alloc, exact, around, body, scopes)?;
+            let body = boxed_node(alloc, exact, around, body, scopes)?;
             scopes.leave();
             for_in(alloc, asked, name, domain, body)
         }
     }
 }
 
+/// The same in a box: where one condition stands in another, this keeps what is made of it off the stack.
 #[cycle(nodes)]
+#[inline(never)]
+fn boxed_node<'a>(
+    alloc: Global,
+    exact: bool,
+    around: &Around<'_, 'a>,
+    condition: &'a Cond,
+    scopes: &mut Scopes<'a>,
+) -> Result<Option<Box<Node>>, NoMemory>
+    requires room { IsRoomy exact around.now }
+    requires forms { forms.HasForms (tree.tree_of condition.now) }
+    requires low { height.height (tree.tree_of condition.now) + length scopes.old ≤ forms.height_limit }
+    ensures scopes { OnOk result (scopes.new ≡ scopes.old) }
+    ensures node { IfOk result (λ n. option_map tree_of (boxed n) ≡ shape.shape_of exact the_readers (around_of around.now) (tree.tree_of condition.now) scopes.old) }
+{
+    match node(alloc, exact, around, condition, scopes)? {
+        Some(node) => Ok(Some(Box::new(alloc, node)?)),
+        None => Ok(None),
+    }
+}
+
+#[cycle(nodes)]
+#[inline(never)]
 fn node_range<'a>(
     alloc: Global,
     exact: bool,
@@ -172,13 +223,14 @@ fn node_range<'a>(
     ensures scopes { OnOk result (scopes.new ≡ scopes.old) }
     ensures node { IfOk result (λ n. option_map bounds_of n ≡ spec.of_two bounds (shape.shape_of exact the_readers (around_of around.now) (tree.bounds_of range.now).low scopes.old) (shape.shape_of exact the_readers (around_of around.now) (tree.bounds_of range.now).high scopes.old)) }
 {
-    let low = node(alloc, exact, around, &range.low, scopes)?;
-    let high = node(alloc, exact, around, &range.high, scopes)?;
-    range_of(alloc, low, high)
+    let low = boxed_node(alloc, exact, around, &range.low, scopes)?;
+    let high = boxed_node(alloc, exact, around, &range.high, scopes)?;
+    Ok(range_of(low, high))
 }
 
 /// What is made of a count, in a range or without one.
 #[cycle(nodes)]
+#[inline(never)]
 fn node_count<'a>(
     alloc: Global,
     exact: bool,
@@ -202,6 +254,7 @@ fn node_count<'a>(
 
 /// What is made of an offset, with an index or without one.
 #[cycle(nodes)]
+#[inline(never)]
 fn node_offset<'a>(
     alloc: Global,
     exact: bool,
@@ -220,14 +273,15 @@ fn node_offset<'a>(
     match index {
         None => Ok(offset(string)),
         Some(index) => {
-            let index = node(alloc, exact, around, index, scopes)?;
-            offset_at(alloc, string, index)
+            let index = boxed_node(alloc, exact, around, index, scopes)?;
+            Ok(offset_at(string, index))
         }
     }
 }
 
 /// What is made of a length, with an index or without one.
 #[cycle(nodes)]
+#[inline(never)]
 fn node_length<'a>(
     alloc: Global,
     exact: bool,
@@ -246,13 +300,14 @@ fn node_length<'a>(
     match index {
         None => Ok(length(string)),
         Some(index) => {
-            let index = node(alloc, exact, around, index, scopes)?;
-            length_at(alloc, string, index)
+            let index = boxed_node(alloc, exact, around, index, scopes)?;
+            Ok(length_at(string, index))
         }
     }
 }
 
 #[cycle(nodes)]
+#[inline(never)]
 fn links<'a>(
     alloc: Global,
     exact: bool,
@@ -279,6 +334,7 @@ fn links<'a>(
 
 /// What is made of the items of a list.
 #[cycle(nodes)]
+#[inline(never)]
 fn items<'a>(
     alloc: Global,
     exact: bool,
@@ -304,6 +360,7 @@ fn items<'a>(
 
 /// What is made of each argument of a call.
 #[cycle(nodes)]
+#[inline(never)]
 fn each<'a>(
     alloc: Global,
     exact: bool,
@@ -326,6 +383,7 @@ fn each<'a>(
 
 /// The index or the arguments that are written last, with one more part behind.
 #[cycle(nodes)]
+#[inline(never)]
 fn step_written<'a>(
     alloc: Global,
     exact: bool,
@@ -349,6 +407,7 @@ fn step_written<'a>(
 
 /// What is made of a path behind what means this.
 #[cycle(nodes)]
+#[inline(never)]
 fn steps_behind<'a>(
     alloc: Global,
     exact: bool,
@@ -374,6 +433,7 @@ fn steps_behind<'a>(
 }
 
 #[cycle(nodes)]
+#[inline(never)]
 fn node_place<'a>(
     alloc: Global,
     exact: bool,
@@ -390,14 +450,15 @@ fn node_place<'a>(
     match place {
         Place::Anywhere => Ok(Some(NodePlace::Anywhere)),
         Place::At(at) => {
-            let at = node(alloc, exact, around, at, scopes)?;
-            place_at(alloc, at)
+            let at = boxed_node(alloc, exact, around, at, scopes)?;
+            Ok(place_at(at))
         }
         Place::Within(range) => Ok(place_within(node_range(alloc, exact, around, range, scopes)?)),
     }
 }
 
 #[cycle(nodes)]
+#[inline(never)]
 fn node_asked<'a>(
     alloc: Global,
     exact: bool,
@@ -416,17 +477,18 @@ fn node_asked<'a>(
         Quant::Any => Ok(Some(NodeQuant::Any)),
         Quant::Nil => Ok(Some(NodeQuant::Nil)),
         Quant::Number(count) => {
-            let count = node(alloc, exact, around, count, scopes)?;
-            asked_number(alloc, count)
+            let count = boxed_node(alloc, exact, around, count, scopes)?;
+            Ok(asked_number(count))
         }
         Quant::Percent(count) => {
-            let count = node(alloc, exact, around, count, scopes)?;
-            asked_percent(alloc, count)
+            let count = boxed_node(alloc, exact, around, count, scopes)?;
+            Ok(asked_percent(count))
         }
     }
 }
 
 #[cycle(nodes)]
+#[inline(never)]
 fn node_over<'a>(
     alloc: Global,
     exact: bool,

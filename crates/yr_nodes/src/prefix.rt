@@ -2,7 +2,7 @@
 
 ghost use Rattle.std.specs.Prelude.{◌≡◌, ◌≤◌, IfOk};
 ghost use Rattle.std.specs.Option.{option_map};
-ghost use Rattle.yr_rules.specs.NodeTree.{tree_of, Prefix};
+ghost use Rattle.yr_rules.specs.NodeTree.{tree_of, boxed, Prefix};
 ghost use Rattle.yr_syntax.specs.Forms.{HasForms};
 ghost use Rattle.yr_syntax.specs.Condition.{tree_of as condition_of};
 ghost use Rattle.yr_syntax.specs.Height.{height};
@@ -16,6 +16,7 @@ use yr_rules::{Node, PrefixOp};
 use yr_syntax::Cond;
 
 /// A prefix operator with those that follow it, the outermost first, and what stands behind them.
+#[inline(never)]
 pub fn prefixes<'a>(
     alloc: Global,
     op: PrefixOp,
@@ -40,13 +41,26 @@ pub fn prefixes<'a>(
 }
 
 /// A checked condition behind prefix operators.
-pub fn wrap(alloc: Global, mut ops: Vec<PrefixOp>, node: Node) -> Result<Node, NoMemory>
-    ensures { IfOk result (λ n. tree_of n ≡ wrapped ops.items (tree_of node)) }
+fn wrap(alloc: Global, mut ops: Vec<PrefixOp>, node: Box<Node>) -> Result<Node, NoMemory>
+    ensures { IfOk result (λ n. tree_of n ≡ wrapped ops.items (tree_of node.value)) }
 {
     let mut whole = node;
     while let Some(op) = ops.pop() {
-        let inner = Box::new(alloc, whole)?;
-        whole = Node::Prefix { op, inner };
+        whole = Box::new(alloc, Node::Prefix { op, inner: whole })?;
     }
-    Ok(whole)
+    Ok(Box::into_inner(whole))
+}
+
+/// What is made of an operand behind prefix operators, where something is made of it.
+pub fn prefixed(
+    alloc: Global,
+    ops: Vec<PrefixOp>,
+    operand: Option<Box<Node>>,
+) -> Result<Option<Node>, NoMemory>
+    ensures { IfOk result (λ n. option_map tree_of n ≡ option_map (wrapped ops.items) (option_map tree_of (boxed operand))) }
+{
+    match operand {
+        Some(operand) => Ok(Some(wrap(alloc, ops, operand)?)),
+        None => Ok(None),
+    }
 }

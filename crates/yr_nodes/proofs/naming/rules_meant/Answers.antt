@@ -1,20 +1,11 @@
-use Rattle.std.proofs.Common.{◌≡◌, ◌<◌, length, rules, ◌∙◌, ◌++◌, ◌∷◌, [], ap, map, get_or}
-use Rattle.std.specs.Prelude.{if◌then◌else◌}
+use Rattle.std.proofs.Common.{◌≤◌, length, map, arith}
 use Rattle.yr_syntax.specs.Condition.{item_of}
-use Rattle.yr_numbered.specs.Names.{is_meant}
-use Rattle.yr_nodes.proofs.NumberLemmas.{rules-step, then-in, else-in}
-use Rattle.yr_nodes.proofs.naming.rules_meant.Goals.{then-means+in_ok-push, else-means}
+use Rattle.yr_nodes.proofs.NumberLemmas.{rules-end}
 use Rattle.yr_nodes.proofs.naming.rules_meant.Goals as goal
 
-pub loop-place-preserved : goal.loop-place-preserved
-loop-place-preserved c =
-    let h : c.loop-place.place < length c.args.rules.now = search rules in
-    let met = c.loop-place.met.items in
-    let asked : c.means.result ≡ is_meant (map item_of c.args.items.now) c.name.result.now = search rules in
-    let more = met ++ get_or c.args.numbers.now c.loop-place.place 0 ∷ [] in
-    let new : c.if-means.met.items ≡ (if c.means.result then more else met) = elim c.if-means.branch [
-      | then-means+in_ok-push w ↦ then-in c.means.result c.if-means.met.items more met w.if-means.true (ap (λ v. v.items) w.met-is ∙ w.in_ok-push.ensures.items)
-      | else-means w ↦ else-in c.means.result c.if-means.met.items more met w.if-means.false (ap (λ v. v.items) w.met-is)
-    ] in
-    rules-step (map item_of c.args.items.now) c.args.rules.now c.args.numbers.now c.loop-place.place c.name.result.now c.means.result met c.if-means.met.items c.requires h c.name.ensures
-    asked new c.loop-place.invariant
+pub returns : goal.returns
+returns c =
+    let places = c.deref-place-items.result.now in
+    let over : length places ≤ c.loop-place.place-index = omega arith in
+    rules-end (map item_of c.args.items.now) c.loop-place.place-index c.args.rules.now c.args.numbers.now c.loop-place.met.items c.in_ok-places.places.items places c.requires over
+    c.deref-place-items.ensures.value c.in_ok-places.ensures.numbers c.loop-place.invariant

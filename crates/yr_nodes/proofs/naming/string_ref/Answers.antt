@@ -1,4 +1,4 @@
-use Rattle.std.proofs.Common.{◌≡◌, ◌<◌, length, arith, sym}
+use Rattle.std.proofs.Common.{◌<◌, length, arith, sym}
 use Rattle.yr_nodes.proofs.LowLemmas.{current-low}
 use Rattle.yr_nodes.proofs.naming.string_ref.Goals as goal
 

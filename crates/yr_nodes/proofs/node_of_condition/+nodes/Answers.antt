@@ -1,7 +1,7 @@
-use Rattle.std.proofs.Common.{◌≡◌, ◌<◌, ◌≤◌, ◌+◌, ◌-◌, ◌∷◌, length, map, drop, Some, refl, sym, ap, ◌∙◌, subst, arith, List}
+use Rattle.std.proofs.Common.{◌≡◌, ◌<◌, ◌≤◌, ◌+◌, ◌∷◌, length, map, drop, Some, refl, sym, ap, ◌∙◌, subst, arith, List}
 use Rattle.std.specs.Prelude.{IfOk, option_map}
 use Rattle.std.proofs.Math.ListN.{drop_of_length-le}
-use Rattle.yr_rules.specs.NodeTree.{ForIn, tree_of, asked_of, domain_of, link_of, links_of, items_of, set_of}
+use Rattle.yr_rules.specs.NodeTree.{ForIn, boxed, tree_of, asked_of, domain_of, link_of, links_of, items_of, set_of}
 use Rattle.yr_syntax.specs.Condition as tree
 use Rattle.yr_syntax.specs.Condition.{Condition}
 use Rattle.yr_syntax.specs.Forms.{height_limit}
@@ -80,24 +80,24 @@ links-returns-clause-node t c =
     subst (λ (x : List Scope). Some (links_of (map link_of all)) ≡ links_shape exact the_readers around (tree.links_of (map tree.link_of xs)) x) v.scopes
     (link-end exact the_readers around (drop i xs) s all (links_shape exact the_readers around (tree.links_of (map tree.link_of xs)) s) (drop_of_length-le xs over) v.whole)
 
-pub node-returns-in_ok-body-in-ForOf-clause-node : goal.node-returns-in_ok-body-in-ForOf-clause-node
-node-returns-in_ok-body-in-ForOf-clause-node t c =
+pub node_by_form-returns-in_ok-body-in-ForOf-clause-node : goal.node_by_form-returns-in_ok-body-in-ForOf-clause-node
+node_by_form-returns-in_ok-body-in-ForOf-clause-node t c =
     let exact = c.args.exact in let around = around_of c.args.around.now in let s0 = c.args.scopes.now in
     let q = c.in-ForOf.quant in let set = c.in-ForOf.set in let body = tree.tree_of c.in-ForOf.body.value in
     let inner = c.enter.new.self in
     let e = ap tree.tree_of c.in-ForOf.is ∙ tree_of-ForOf q set c.in-ForOf.body in
     let made =
     for-of-made exact the_readers around (tree.asked_of q) (tree.set_of set) body s0 c.node_asked-in-ForOf.new.scopes inner (option_map asked_of c.in_ok-asked-in-ForOf.asked)
-    (set_of c.in_ok-set-in-ForOf.set) (option_map tree_of c.in_ok-body-in-ForOf.body) c.in_ok-asked-in-ForOf.ensures.node c.in_ok-asked-in-ForOf.ensures.scopes c.in_ok-set-in-ForOf.ensures
+    (set_of c.in_ok-set-in-ForOf.set) (option_map tree_of (boxed c.in_ok-body-in-ForOf.body)) c.in_ok-asked-in-ForOf.ensures.node c.in_ok-asked-in-ForOf.ensures.scopes c.in_ok-set-in-ForOf.ensures
     c.in_ok-enter-in-ForOf.ensures (c.in_ok-body-in-ForOf.ensures.node ∙ ap (λ x. shape_of exact the_readers around (tree.tree_of x) inner) c.deref-in-ForOf.ensures) in
-    subst (λ x. IfOk c.for_of.result (λ n. option_map tree_of n ≡ x)) (made ∙ sym (ap (λ (x : Condition). shape_of exact the_readers around x s0) e)) c.for_of.ensures
+    c.for_of.ensures ∙ made ∙ sym (ap (λ (x : Condition). shape_of exact the_readers around x s0) e)
 
-pub node-returns-in_ok-body-in-ForIn-clause-node : goal.node-returns-in_ok-body-in-ForIn-clause-node
-node-returns-in_ok-body-in-ForIn-clause-node t c =
+pub node_by_form-returns-in_ok-body-in-ForIn-clause-node : goal.node_by_form-returns-in_ok-body-in-ForIn-clause-node
+node_by_form-returns-in_ok-body-in-ForIn-clause-node t c =
     let exact = c.args.exact in let around = around_of c.args.around.now in let s0 = c.args.scopes.now in
     let q = c.in-ForIn.quant in let name = c.in-ForIn.name.items in let domain = tree.domain_of c.in-ForIn.over in let body = tree.tree_of c.in-ForIn.body.value in
     let now = c.node_asked-in-ForIn.new.scopes in let then = c.node_over.new.scopes in let inner = c.enter-in-ForIn.new.self in
-    let oa = option_map asked_of c.in_ok-asked-in-ForIn.asked in let od = option_map domain_of c.in_ok-domain-in-ForIn.domain in let ob = option_map tree_of c.in_ok-body-in-ForIn.body in
+    let oa = option_map asked_of c.in_ok-asked-in-ForIn.asked in let od = option_map domain_of c.in_ok-domain-in-ForIn.domain in let ob = option_map tree_of (boxed c.in_ok-body-in-ForIn.body) in
     let own = scope_of c.opened-inner.result in
     let e = ap tree.tree_of c.in-ForIn.is ∙ tree_of-ForIn q c.in-ForIn.name c.in-ForIn.over c.in-ForIn.body in
     let opens : own ≡ opened around name domain then = c.opened-inner.ensures ∙ ap (λ w. opened around w domain then) c.deref-in-ForIn.ensures.value in

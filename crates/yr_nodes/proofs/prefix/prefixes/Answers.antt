@@ -1,4 +1,4 @@
-use Rattle.std.proofs.Common.{◌≡◌, ◌∙◌, ◌++◌, ◌∷◌, [], ap, sym, subst, rules}
+use Rattle.std.proofs.Common.{◌≡◌, ◌∙◌, ap, sym, subst, rules}
 use Rattle.yr_syntax.specs.Condition as tree
 use Rattle.yr_syntax.specs.declared.condition.Cond.{the_lemmas}
 use Rattle.yr_syntax.specs.Forms.{HasForms}

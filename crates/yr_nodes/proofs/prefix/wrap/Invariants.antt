@@ -4,7 +4,7 @@ use Rattle.yr_nodes.specs.Views.{wrapped}
 use Rattle.yr_nodes.proofs.prefix.wrap.Given as goal
 
 abbrev pub invariant-loop-op : goal.invariant-loop-op
-invariant-loop-op l = wrapped l.ops.items (tree_of l.whole) ≡ wrapped l.fn.ops.items (tree_of l.fn.node)
+invariant-loop-op l = wrapped l.ops.items (tree_of l.whole.value) ≡ wrapped l.fn.ops.items (tree_of l.fn.node.value)
 
 abbrev pub decreases-loop-op : goal.decreases-loop-op
 decreases-loop-op l = vec_len l.ops

@@ -1,4 +1,4 @@
-use Rattle.std.proofs.Common.{◌≡◌, Ok, Err, ap}
+use Rattle.std.proofs.Common.{Ok, Err, ap}
 use Rattle.yr_pattern.specs.Tree.{tree_of}
 use Rattle.yr_nodes.specs.Fixed.{the_readers}
 use Rattle.yr_nodes.specs.Readers.{HexRefusal, Jump}

@@ -1,4 +1,4 @@
-use Rattle.std.proofs.Common.{◌≡◌, Ok, Err, subst}
+use Rattle.std.proofs.Common.{Ok, Err, subst}
 use Rattle.yr_regex.specs.Answers.{Answers}
 use Rattle.yr_pattern.specs.Tree.{tree_of}
 use Rattle.yr_nodes.specs.Fixed.{the_readers}

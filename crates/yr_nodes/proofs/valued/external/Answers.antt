@@ -1,4 +1,4 @@
-use Rattle.std.proofs.Common.{◌≡◌, ◌∙◌, sym}
+use Rattle.std.proofs.Common.{◌∙◌, sym}
 use Rattle.yr_nodes.proofs.MadeLemmas.{external-there}
 use Rattle.yr_nodes.proofs.valued.external.Goals as goal
 
