@@ -8,7 +8,7 @@ ghost use Rattle.yr_findings.specs.Known.{AreMet, MeetsFronts};
 
 use std::alloc::Global;
 use yr_base::NoMemory;
-use yr_numbered::{Numbered, Table, begins};
+use yr_numbered::{Numbered, Table};
 
 /// So many fronts are compared with one name after another: a name may have 129 beginnings, and it is compared with eight
 /// fronts in the time in which one of them is looked up.
@@ -16,8 +16,9 @@ const FEW: usize = 1024;
 
 /// Names, and fronts that were looked for among them.
 ///
-/// A front that no name begins with, or only the last one, is compared with all of them. So that a condition with many
-/// fronts does not take their number times that of the names, they are looked for in one walk over the names.
+/// Where the names are in order, a front is looked up among them. Elsewhere one that no name begins with, or only the last
+/// one, is compared with all of them. So that a condition with many fronts does not take their number times that of the
+/// names, they are looked for in one walk over the names.
 #[derive(Drop)]
 pub struct Known<'c, 'n, 'f> {
     names: &'c Numbered<'n>,
@@ -72,20 +73,8 @@ fn met_fronts<'n>(
     Ok(met)
 }
 
-/// Whether one of the names begins so.
-fn some_begins(front: &[u8], names: &Numbered<'_>) -> bool
-    ensures { result ≡ list_any (spec.means front.now true) names.now }
-{
-    for number in 0..names.len() {
-        if begins(front, names.name(number)) {
-            return true;
-        }
-    }
-    false
-}
-
 impl<'c, 'n, 'f> Known<'c, 'n, 'f> {
-    /// Looks for the fronts, if they are many.
+    /// Looks for the fronts, if they are many and the names are in no order.
     #[tactic(auto, using(crate::proofs::KnownLemmas::no_fronts))]
     pub fn new(
         alloc: Global,
@@ -94,7 +83,7 @@ impl<'c, 'n, 'f> Known<'c, 'n, 'f> {
     ) -> Result<Known<'c, 'n, 'f>, NoMemory>
         ensures { IfOk result (λ k. k.names.now ≡ names.now) }
     {
-        if fronts.len() <= FEW {
+        if fronts.len() <= FEW || names.is_sorted() {
             return Ok(Known {
                 names,
                 fronts: Numbered::new(alloc),
@@ -119,7 +108,7 @@ impl<'c, 'n, 'f> Known<'c, 'n, 'f> {
         if self.fronts.has(front) {
             self.met.has(front)
         } else {
-            some_begins(front, self.names)
+            self.names.begins_some(front)
         }
     }
 

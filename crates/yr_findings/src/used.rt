@@ -53,8 +53,9 @@ fn first_unknown_token<'a>(strings: &Known<'_, '_, '_>, uses: &[Use<'a>]) -> Opt
     None
 }
 
-/// The first token of a name that no string has, or of a sign that means none. An item with a `*` is compared with one name
-/// after another, but where there are many of them: then the names are walked once for all.
+/// The first token of a name that no string has, or of a sign that means none. An item with a `*` is looked up where the
+/// names are in order, and else compared with one after another; but where such items are many, the names are walked once
+/// for all of them.
 pub fn first_unknown_string<'a>(
     alloc: Global,
     strings: &Numbered<'_>,
@@ -97,7 +98,7 @@ fn first_unknown_word<'a>(rules: &Known<'_, '_, '_>, uses: &[Use<'a>]) -> Option
     None
 }
 
-/// The first word without a meaning, or item that no earlier rule of the namespace meets. Items with a `*` are compared as
+/// The first word without a meaning, or item that no earlier rule of the namespace meets. Items with a `*` are looked for as
 /// those of strings are.
 pub fn first_unknown_name<'a>(
     alloc: Global,

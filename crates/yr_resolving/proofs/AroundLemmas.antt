@@ -37,23 +37,24 @@ module _ (at : AtHand) (h : IsAtHand at) where
       ∙ ap (λ (ss : List Name). kept (imports p) (map earlier_rule (earlier p)) ss first) s
       ∙ ap (λ (k : ℕ). kept (imports p) (map earlier_rule (earlier p)) (string_names p.rule) k) f
 
-  -- the same where the modules and the numbers are lent as slices
-  pub around-by : (strings : List Name) (first : ℕ) (modules : List Module) (numbers : List ℕ) → modules ≡ at.names.now.modules.items → numbers ≡ at.space.now.numbers.items
-      → strings ≡ string_names (placed_at at).rule → first ≡ first_string_of (placed_at at)
+  -- the same where the modules and the numbers are lent as slices, and the names of the rules by themselves
+  pub around-by : (rules strings : List Name) (first : ℕ) (modules : List Module) (numbers : List ℕ) → modules ≡ at.names.now.modules.items → numbers ≡ at.space.now.numbers.items
+      → rules ≡ at.space.now.rules → strings ≡ string_names (placed_at at).rule → first ≡ first_string_of (placed_at at)
       → record {
         modules = imported_modules at.space.now.imports (map module_shown modules);
         externals = map external_of at.externals.now;
-        rules = earlier_rules at.space.now.rules numbers;
+        rules = earlier_rules rules numbers;
         strings = strings;
         first_string = first;
       } ≡ around (given_at at) (placed_at at)
-  around-by strings first modules numbers m n s f =
+  around-by rules strings first modules numbers m n r s f =
       ap (λ (ms : List Module). record {
         modules = imported_modules at.space.now.imports (map module_shown ms);
         externals = map external_of at.externals.now;
-        rules = earlier_rules at.space.now.rules numbers;
+        rules = earlier_rules rules numbers;
         strings = strings;
         first_string = first;
       }) m
+      ∙ ap (λ (ns : List Name). kept at.space.now.imports (earlier_rules ns numbers) strings first) r
       ∙ ap (λ (ks : List ℕ). kept at.space.now.imports (earlier_rules at.space.now.rules ks) strings first) n
       ∙ around-is strings first s f

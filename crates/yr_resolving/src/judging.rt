@@ -24,6 +24,7 @@ use crate::at_hand::AtHand;
 use crate::late::Examined;
 use crate::light::{WEIGHT_LIMIT, first_node, light_node, when_made};
 use crate::refusing::refuse_rule;
+use crate::sorting::{has_rule_items, sort_strings, sorted_rules};
 use crate::stages::{CHECKS, Fault, first_early, first_late};
 use std::alloc::Global;
 use yr_base::NoMemory;
@@ -53,17 +54,21 @@ pub struct Made<'a> {
     pub strings: Vec<CheckedString>,
     /// The wildcards for rules in its condition.
     pub fronts: Vec<Name<'a>>,
+    /// Whether its condition has a set of rules. Nothing is promised of it.
+    pub names_rules: bool,
     /// What all rules up to this one weigh.
     pub weight: u64,
 }
 
-/// What the rule's names are looked up in.
+/// What the rule's names are looked up in: those of the earlier rules and of its strings.
 fn rule_around<'c, 'a>(
     at: &AtHand<'c, 'a>,
+    rules: &'c Numbered<'a>,
     strings: &'c Numbered<'a>,
     first_string: u32,
 ) -> Around<'c, 'a>
     requires at { IsAtHand at.now }
+    requires rules { rules.now ≡ at.now.space.now.rules }
     requires strings { strings.now ≡ names_of (placed_at at.now).rule }
     requires first { first_string ≡ first_string_of (placed_at at.now) }
     ensures { around_of result ≡ around (given_at at.now) (placed_at at.now) }
@@ -73,11 +78,27 @@ fn rule_around<'c, 'a>(
         imports: &at.space.imports,
         externals: at.externals,
         external_names: at.external_names,
-        rules: &at.space.rules,
+        rules,
         rule_numbers: &at.space.numbers,
         strings,
         first_string,
     }
+}
+
+/// What the condition uses.
+fn uses_at<'a>(
+    alloc: Global,
+    at: &AtHand<'_, 'a>,
+    before: &Before,
+    strings: &Numbered<'a>,
+) -> Result<Uses<'a>, NoMemory>
+    requires at { IsAtHand at.now }
+    requires before { IsBefore (given_at at.now) (placed_at at.now) before.now }
+    requires strings { strings.now ≡ names_of (placed_at at.now).rule }
+    ensures { IfOk result (λ uses. uses ≡ rule_uses (given_at at.now) (placed_at at.now)) }
+{
+    let around = rule_around(at, &at.space.rules, strings, before.strings as u32);
+    condition_uses(alloc, &around, &at.rule.condition)
 }
 
 fn node_kind(externals: &[External], node: &Option<Node>) -> Option<Kind>
@@ -204,6 +225,7 @@ fn make<'a>(
         rule,
         strings,
         fronts,
+        names_rules: has_rule_items(uses),
         weight,
     })
 }
@@ -283,33 +305,37 @@ fn weigh<'a>(
     }
 }
 
-/// The checks that look at patterns and the condition, of a rule whose strings have these names.
+/// The checks that look at patterns and the condition. These are the names of the earlier rules and of the rule's strings, and
+/// what the condition uses.
 fn judge_named<'c, 's, 'a>(
     alloc: Global,
     at: &AtHand<'c, 'a>,
     before: &Before,
+    rules: &'s Numbered<'a>,
     strings: &'s Numbered<'a>,
+    uses: &Uses<'a>,
 ) -> Result<Made<'a>, ResolveFault>
     requires at { IsAtHand at.now }
     requires before { IsBefore (given_at at.now) (placed_at at.now) before.now }
     requires forms { RuleHasForms (placed_at at.now).rule }
     requires sound { Each IsSoundString (placed_at at.now).rule.strings }
+    requires rules { rules.now ≡ at.now.space.now.rules }
     requires strings { strings.now ≡ names_of (placed_at at.now).rule }
+    requires uses { uses.now ≡ rule_uses (given_at at.now) (placed_at at.now) }
     ensures made { IfOk result (IsMade (given_at at.now) (placed_at at.now)) }
     ensures passed { OnOk result (rest_fault (given_at at.now) (placed_at at.now) ≡ None) }
     ensures refused { IfErr result (λ e. Explains e (rest_fault (given_at at.now) (placed_at at.now))) }
 {
-    let around = rule_around(at, strings, before.strings as u32);
-    let uses = condition_uses(alloc, &around, &at.rule.condition)?;
-    let sets = when_made(&around, &uses);
+    let around = rule_around(at, rules, strings, before.strings as u32);
+    let sets = when_made(&around, uses);
     let node = first_node(alloc, at, &around, sets)?;
     let findings = string_findings(alloc, &at.rule.strings, before.rules as u32)?;
     let kind = node_kind(at.externals, &node);
-    match later_fault(alloc, at, before, strings, &uses, findings, kind)? {
+    match later_fault(alloc, at, before, strings, uses, findings, kind)? {
         Some(fault) => Err(refusal(alloc, at, before, fault)),
         None => {
             let node = light_node(alloc, at, &around, sets, node)?;
-            weigh(alloc, at, before, &uses, findings.weight, node)
+            weigh(alloc, at, before, uses, findings.weight, node)
         }
     }
 }
@@ -328,8 +354,13 @@ fn judge_condition<'a>(
     ensures passed { OnOk result (rest_fault (given_at at.now) (placed_at at.now) ≡ None) }
     ensures refused { IfErr result (λ e. Explains e (rest_fault (given_at at.now) (placed_at at.now))) }
 {
-    let strings = string_names(alloc, &at.rule.strings)?;
-    judge_named(alloc, at, before, &strings)
+    let mut strings = string_names(alloc, &at.rule.strings)?;
+    let uses = uses_at(alloc, at, before, &strings)?;
+    sort_strings(&mut strings, &uses)?;
+    match sorted_rules(alloc, &at.space.rules, &uses)? {
+        Some(rules) => judge_named(alloc, at, before, &rules, &strings, &uses),
+        None => judge_named(alloc, at, before, &at.space.rules, &strings, &uses),
+    }
 }
 
 /// All checks on a rule, and what is kept of it where none fails.

@@ -8,6 +8,7 @@ mod late;
 mod light;
 mod refusing;
 mod resolving;
+mod sorting;
 mod space;
 mod stages;
 mod walking;

@@ -18,6 +18,9 @@ pub struct Space<'a> {
     pub numbers: Vec<u32>,
     /// The wildcards for rules in its conditions, without their `*`.
     pub fronts: Numbered<'a>,
+    /// Whether the names of its rules are kept in alphabetical order: from the first rule on whose condition has a set of
+    /// rules. It decides only how long later sets take.
+    pub in_order: bool,
 }
 
 fn new_space<'a>(alloc: Global, name: &'a [u8]) -> Space<'a>
@@ -30,6 +33,7 @@ fn new_space<'a>(alloc: Global, name: &'a [u8]) -> Space<'a>
         rules: Numbered::new(alloc),
         numbers: Vec::new(alloc),
         fronts: Numbered::new(alloc),
+        in_order: false,
     }
 }
 
@@ -81,17 +85,22 @@ fn add_fronts<'a>(all: &mut Numbered<'a>, fronts: &[Name<'a>]) -> Result<(), NoM
     Ok(())
 }
 
-/// Adds a rule with its wildcards.
+/// Adds a rule with its wildcards, and with whether its condition has a set of rules.
 pub fn add_rule<'a>(
     space: &mut Space<'a>,
     name: &'a [u8],
     number: u32,
     fronts: &[Name<'a>],
+    names_rules: bool,
 ) -> Result<(), NoMemory>
     ensures name { OnOk result (space.new.name ≡ space.old.name) }
     ensures shown { OnOk result (space_shown space.new ≡ with_rule name.now number fronts.now (space_shown space.old)) }
 {
     space.rules.add(name)?;
+    space.in_order = space.in_order || names_rules;
+    if space.in_order {
+        space.rules.sort()?;
+    }
     space.numbers.push(number)?;
     add_fronts(&mut space.fronts, fronts)?;
     Ok(())

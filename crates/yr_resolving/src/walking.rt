@@ -94,10 +94,17 @@ fn keep<'a>(
         rule: checked,
         mut strings,
         fronts,
+        names_rules,
         weight,
     } = made;
     let space = &mut walk.spaces[number];
-    add_rule(space, &rule.name, walk.rules.len() as u32, &fronts)?;
+    add_rule(
+        space,
+        &rule.name,
+        walk.rules.len() as u32,
+        &fronts,
+        names_rules,
+    )?;
     walk.rules.push(checked)?;
     walk.strings.append(&mut strings)?;
     walk.weight = weight;

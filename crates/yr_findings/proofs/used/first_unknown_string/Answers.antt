@@ -1,4 +1,4 @@
-use Rattle.std.proofs.Common.{◌≡◌, ◌∙◌, ap, map}
+use Rattle.std.proofs.Common.{◌∙◌, ap, map}
 use Rattle.yr_numbered.specs.Names.{first}
 use Rattle.yr_uses.specs.Views.{use_of}
 use Rattle.yr_types.specs.Checks.{unknown_string}
