@@ -6,4 +6,6 @@ mod answers;
 #[cfg(test)]
 mod rows;
 #[cfg(test)]
+mod sets;
+#[cfg(test)]
 mod texts;

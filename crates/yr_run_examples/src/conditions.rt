@@ -242,6 +242,12 @@ out s4 t.bin
 out s5 t.bin
 out s6 t.bin
 
+file r.yar rule o1 { strings: $b = "ab" $ab = "ba" $a = "q" $ = "ab" $abc = "z" $ = "q"
+more r.yar condition: 1 of ($b, $b) and not 2 of ($b, $b) and 1 of ($a*) and not 2 of ($a*) and none of ($abc*) and 1 of ($ab*) and 2 of ($ab*, $a, $a*, $b)
+more r.yar and not 3 of ($ab*, $a, $a*, $b) and 1 of ($) and not 2 of ($) and 3 of ($*, $b) and not 4 of ($*) }
+scan r.yar t.bin
+out o1 t.bin
+
 file r.yar rule f1 { strings: $a = "ab" $b = "ba" condition: for 2 of them : ( # >= 1 ) and for none of ($a) : ( @ == 0 ) and for all of ($a, $b) : ( $ and not $ at 0 ) and for -1 of them : ( false ) }
 more r.yar rule f2 { strings: $a = "ab" condition: not defined for (1 \ 0) of them : ( true ) and not defined (1 \ 0) of them and for none of ($a) : ( 1 \ 0 == 0 ) }
 more r.yar rule f3 { condition: for 0 i in (1..3) : ( i > 3 ) and not for 0 i in (1..3) : ( i > 2 ) and for none i in (1, 2) : ( i == 3 ) }
@@ -315,4 +321,4 @@ out q:r t.bin
 out p:r t.bin"#;
 
 /// How many rows there are.
-pub const COUNT: u32 = 47;
+pub const COUNT: u32 = 48;
