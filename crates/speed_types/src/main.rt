@@ -47,10 +47,10 @@ fn main(rt: HostRuntime) -> anyhow::Result<()> {
             &again(rt.alloc(), 60_000, items)?,
         )?;
     }
-    for count in [2_500, 5_000, 10_000] {
+    for count in [10_000, 20_000, 40_000, 60_000] {
         time_checks(rt, "sets of one string", count, &apart(rt.alloc(), count)?)?;
     }
-    for count in [750, 1_500, 3_000, 30_000] {
+    for count in [3_000, 15_000, 30_000, 60_000] {
         time_checks(rt, "wildcards", count, &wild(rt.alloc(), count)?)?;
     }
     for count in [25_000, 50_000, 100_000] {
