@@ -19,7 +19,7 @@ use Rattle.yr_rules.specs.Weight.{total, string_weight, rule_weight}
 use Rattle.yr_meaning.specs.Fitting.{ids_of}
 use Rattle.yr_rules.specs.Ids.{HasIds}
 use Rattle.yr_image.specs.ModuleTable.{field_row_of, call_row_of}
-use Rattle.yr_compiling.specs.Built.{HaveIds}
+use Rattle.yr_preserves.specs.RuleIds.{HaveIds}
 use Rattle.speed_compile.specs.Made.{plain_rule, plain_string, AreMade}
 
 -- ---- one more

@@ -4,14 +4,14 @@ ghost use Rattle.std.specs.Prelude.{◌≡◌, ◌≤◌, map, length, All, IfOk
 ghost use Rattle.yr_pattern.specs.Variants.{variant_of, variant_size};
 ghost use Rattle.yr_rules.specs.Rules.{rule_of, string_of, rules_of};
 ghost use Rattle.yr_text.specs.Variants.{IsSound};
-ghost use Rattle.yr_compiling.specs.Built.{HaveIds};
+ghost use Rattle.yr_preserves.specs.RuleIds.{HaveIds};
 ghost use Rattle.speed_compile.specs.Made.{plain_rule, plain_string, AreMade};
 
 use crate::texts::{Form, variants_of};
 use std::alloc::Global;
 use yr_base::NoMemory;
-use yr_kinds::strings_weight;
 use yr_rules::{CheckedRule, CheckedRules, CheckedString, Node, NodePlace, StringRef, Variant};
+use yr_typing::strings_weight;
 
 /// The most that strings may weigh here, so that the rules have room beside them.
 const MOST_WEIGHT: u64 = 28_000_000;

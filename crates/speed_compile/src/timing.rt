@@ -1,7 +1,7 @@
 //! Rules, compiled and timed.
 
 ghost use Rattle.yr_rules.specs.Rules.{rules_of};
-ghost use Rattle.yr_compiling.specs.Built.{HaveIds};
+ghost use Rattle.yr_preserves.specs.RuleIds.{HaveIds};
 
 use crate::making::make;
 use crate::texts::Form;
@@ -9,7 +9,7 @@ use anyhow::bail;
 use std::alloc::Global;
 use std::time::CpuClock;
 use yr_base::NoMemory;
-use yr_compiling::compile;
+use yr_compiler::compile;
 use yr_image::encode;
 use yr_rules::CheckedRules;
 

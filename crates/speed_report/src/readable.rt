@@ -1,7 +1,7 @@
 //! Match lists that are made by hand.
 
 ghost use Rattle.std.specs.Prelude.{IfOk};
-ghost use Rattle.yr_matches.specs.Found.{IsReadable};
+ghost use Rattle.yr_answer.specs.Found.{IsReadable};
 ghost use Rattle.yr_report.specs.Made.{AreBelow};
 
 use std::alloc::{AllocError, Global};

@@ -2,19 +2,19 @@
 
 ghost use Rattle.std.specs.Prelude.{◌≡◌, true, All, IfOk, length};
 ghost use Rattle.yr_image.specs.Reading.{image_in};
-ghost use Rattle.yr_matches.specs.Found.{IsReadable, items_of};
-ghost use Rattle.yr_verifier.specs.Verified.{bytes_of};
+ghost use Rattle.yr_answer.specs.Found.{IsReadable, items_of};
+ghost use Rattle.yr_machine.specs.Verified.{bytes_of};
 
 use crate::counter::Counter;
 use crate::images::{Form, image, make_draft};
 use crate::readable::readable;
 use std::alloc::{AllocError, Global};
 use std::time::CpuClock;
-use yr_answer::ReportOptions;
+use yr_answer::{Matches, ReportOptions};
 use yr_base::{NoMemory, Truth};
-use yr_matches::Matches;
+use yr_machine::VerifiedImage;
 use yr_report::write_report;
-use yr_verifier::{VerifiedImage, verify};
+use yr_verifier::verify;
 
 /// How often each report is written; the fastest run counts.
 const RUNS: usize = 3;

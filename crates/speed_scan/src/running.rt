@@ -3,7 +3,7 @@
 use anyhow::bail;
 use std::alloc::Global;
 use yr_base::{MemorySink, MemoryStore};
-use yr_cli::yara_main;
+use yr_commands::yara_main;
 
 /// The most bytes that a report may have here.
 const ROOM: u32 = 1_000_000;

@@ -1,7 +1,7 @@
 //! Searches, done and timed.
 
 ghost use Rattle.std.specs.Prelude.{◌≡◌, ◌<◌, ◌≤◌, ◌^◌, length};
-ghost use Rattle.yr_verifier.specs.Verified.{bytes_of};
+ghost use Rattle.yr_machine.specs.Verified.{bytes_of};
 ghost use Rattle.yr_search.specs.Scratches.{IsScratchFor};
 
 use crate::images::{After, atoms, image};
@@ -9,10 +9,11 @@ use std::alloc::Global;
 use std::marker::Brand;
 use std::sync::ledger::{Blank, Ledger};
 use std::time::CpuClock;
+use yr_answer::Matches;
 use yr_base::{NoMemory, Steps};
-use yr_matches::Matches;
+use yr_machine::VerifiedImage;
 use yr_search::{Scratch, search};
-use yr_verifier::{VerifiedImage, verify};
+use yr_verifier::verify;
 
 /// How often each file is searched; the fastest run counts.
 const RUNS: usize = 3;

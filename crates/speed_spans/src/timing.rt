@@ -2,7 +2,7 @@
 
 ghost use Rattle.std.specs.Prelude.{◌≡◌, ◌<◌, ◌≤◌, ◌^◌, length, IfSome};
 ghost use Rattle.yr_moves.specs.Programs.{moves_of, IsWellformed};
-ghost use Rattle.yr_ends.specs.EndWalks.{IsMidway};
+ghost use Rattle.yr_walks.specs.EndWalks.{IsMidway};
 
 use crate::programs::Program;
 use std::alloc::Global;
@@ -10,8 +10,8 @@ use std::marker::Brand;
 use std::sync::ledger::{Blank, Ledger};
 use std::time::CpuClock;
 use yr_base::{Border, NoMemory, Steps};
-use yr_ends::{Edges, EndMarks, EndWalk, ends};
 use yr_moves::{Marks, ProgramRows, best_end};
+use yr_walks::{Edges, EndMarks, EndWalk, ends};
 
 /// How often each is run; the fastest run counts.
 const RUNS: usize = 3;

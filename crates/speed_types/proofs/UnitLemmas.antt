@@ -6,9 +6,9 @@ use Rattle.yr_base.specs.Words.{is_word}
 use Rattle.yr_base.proofs.WordLemmas.{word_test}
 use Rattle.yr_rules.specs.Rules.{PlainExternal}
 use Rattle.yr_rules.specs.Wellformed.{IsShortWord}
-use Rattle.yr_types.specs.declared.unit.Unit.{Unit as UnitRow}
-use Rattle.yr_types.specs.Resolving.{AreExternals, AreUnits, IsUnit}
-use Rattle.yr_types.specs.Sources.{unit_of}
+use Rattle.yr_checks.specs.declared.unit.Unit.{Unit as UnitRow}
+use Rattle.yr_checks.specs.Resolving.{AreExternals, AreUnits, IsUnit}
+use Rattle.yr_checks.specs.Sources.{unit_of}
 
 pub default_word : IsShortWord (codes "default")
 default_word = ((word_test (codes "default")).0 refl, leb-true (length (codes "default")) 128 refl)

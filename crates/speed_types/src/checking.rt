@@ -1,16 +1,16 @@
 //! The checks on a text.
 
 ghost use Rattle.std.specs.Prelude.{IfOk};
-ghost use Rattle.yr_types.specs.Resolving.{IsUnit};
-ghost use Rattle.yr_types.specs.Sources.{unit_of};
+ghost use Rattle.yr_checks.specs.Resolving.{IsUnit};
+ghost use Rattle.yr_checks.specs.Sources.{unit_of};
 
 use anyhow::bail;
 use std::alloc::Global;
 use yr_base::MemoryStore;
+use yr_checking::resolve;
+use yr_checks::{CheckedRules, ModuleNames, Unit};
 use yr_lexer::gather;
 use yr_parser::parse;
-use yr_resolving::resolve;
-use yr_types::{CheckedRules, ModuleNames, Unit};
 
 const NAME: &str = "made.yar";
 

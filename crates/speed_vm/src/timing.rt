@@ -3,8 +3,9 @@
 ghost use Rattle.std.specs.Prelude.{◌≡◌, ◌<◌, ◌≤◌, ◌^◌, [], length, map, IfOk, true};
 ghost use Rattle.yr_image.specs.Reading.{image_in};
 ghost use Rattle.yr_machine.specs.ImageRun.{FitExternals};
+ghost use Rattle.yr_hits.specs.Programs.{HasRoom};
 ghost use Rattle.yr_search.specs.Scratches.{IsScratchFor};
-ghost use Rattle.yr_verifier.specs.Verified.{bytes_of};
+ghost use Rattle.yr_machine.specs.Verified.{bytes_of};
 
 use crate::images::{Form, image};
 use crate::nothing::Nothing;
@@ -12,10 +13,12 @@ use std::alloc::{AllocError, Global};
 use std::marker::Brand;
 use std::sync::ledger::{Blank, Ledger};
 use std::time::CpuClock;
+use yr_answer::Matches;
 use yr_base::{NoMemory, Steps, Truth};
-use yr_matches::Matches;
+use yr_machine::VerifiedImage;
+use yr_moves::Marks;
 use yr_search::{Scratch, search};
-use yr_verifier::{VerifiedImage, verify};
+use yr_verifier::verify;
 use yr_vm::evaluate;
 
 /// How often each image is run; the fastest run counts.
@@ -64,15 +67,15 @@ fn run<'a, 'm, L: Ledger>(
     image: &'a VerifiedImage<'a>,
     matches: &Matches,
     modules: &'m Nothing,
-    scratch: &mut Scratch,
+    marks: &mut Marks,
 ) -> Result<usize, NoMemory>
     requires name { blank.name ≡ L.name }
     requires parts { blank.parts ≡ L.parts }
     requires some { 0 < blank.parts }
     requires matches { length matches.now.lists ≡ length (image_in (bytes_of image.now)).strings }
     requires externals { FitExternals (image_in (bytes_of image.now)) [] }
-    requires scratch { IsScratchFor (bytes_of image.now) scratch.old }
-    ensures { IsScratchFor (bytes_of image.now) scratch.new }
+    requires room { HasRoom (image_in (bytes_of image.now)) marks.old.room }
+    ensures { marks.new.room ≡ marks.old.room }
 {
     let mut truths = no_truths(alloc, image)?;
     let mut steps = Steps::<L>::begin(blank);
@@ -83,7 +86,7 @@ fn run<'a, 'm, L: Ledger>(
         &[],
         modules,
         &mut truths,
-        scratch,
+        marks,
         &mut steps,
     );
     Ok(truths.iter().filter(|t| **t == Truth::Yes).count())
@@ -114,7 +117,7 @@ fn fastest(rt: HostRuntime, bytes: &[u8]) -> anyhow::Result<Option<(usize, f64)>
             &image,
             &matches,
             &modules,
-            &mut scratch,
+            &mut scratch.marks,
         ) else {
             return Ok(None);
         };

@@ -7,9 +7,9 @@ mod trees;
 use anyhow::bail;
 use std::alloc::Global;
 use trees::{Form, prefixed, wrapped};
+use yr_draft::ImageDraft;
 use yr_emission::emit_rule;
 use yr_rules::Node;
-use yr_tables::ImageDraft;
 
 /// How high a condition may be.
 const HEIGHT: u32 = 1024;

@@ -3,11 +3,11 @@
 use anyhow::bail;
 use std::alloc::Global;
 use yr_base::MemoryStore;
-use yr_elf::elf_names;
+use yr_checking::resolve;
+use yr_checks::{ResolveFault, Unit};
 use yr_lexer::gather;
+use yr_modules::elf::elf_names;
 use yr_parser::parse;
-use yr_resolving::resolve;
-use yr_types::{ResolveFault, Unit};
 
 const NAME: &str = "deep.yar";
 

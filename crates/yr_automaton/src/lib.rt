@@ -10,8 +10,6 @@ mod prefix;
 mod rows;
 mod run;
 mod search;
-#[cfg(test)]
-mod tests;
 
 pub use automaton::Automaton;
 pub use building::build;

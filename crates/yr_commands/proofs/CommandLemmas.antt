@@ -7,10 +7,10 @@ use Rattle.std.proofs.lemmas.Bool.{leb-true}
 use Rattle.std.proofs.lemmas.List.Elements.{All-cons, All-nil, All-map}
 use Rattle.yr_base.specs.Words.{IsWord, is_word, reserved_words, name_limit}
 use Rattle.yr_base.proofs.WordLemmas.{word_test}
-use Rattle.yr_numbered.specs.Names.{first_twice}
+use Rattle.yr_name_tables.specs.Names.{first_twice}
 use Rattle.yr_rules.specs.Rules.{PlainExternal}
 use Rattle.yr_rules.specs.Wellformed.{IsShortWord, AreDifferent, count_different}
-use Rattle.yr_types.specs.Resolving.{AreExternals}
+use Rattle.yr_checks.specs.Resolving.{AreExternals}
 use Rattle.yr_words.specs.Values.{Word, Halves, Given, cut_at, is_name, given_of, given_by, number_up_to, is_number}
 use Rattle.yr_words.specs.Commands.{Flags, Source, Command, Scan, ScanImage, Compile, Check, Work}
 use Rattle.yr_words.specs.Words.{each_of, source_in, source_of, sources_of, whole_source, split_of, Split, with_sources, scan_of, scan_image_of, compile_of, check_by, check_of, work_of, scan_by, plain_command, command_of, flags_of, places_of, has_letter, scan_flags, is_flag_of, scan_letters, last_givens, before_givens, size_limit}

@@ -3,3 +3,4 @@ pub mod SizeLemmas
 pub mod StepLemmas
 pub mod WorkLemmas
 pub mod RunLemmas
+mod TopLemmas

@@ -2,7 +2,7 @@
 use Rattle.std.proofs.Common.{◌≡◌, ℕ, List, [], ◌∷◌, ◌++◌, map, Option, None, Some, refl, sym, ap, subst, ◌∙◌, append_assoc, codes}
 use Rattle.yr_base.specs.Store.{Files}
 use Rattle.yr_base.specs.Told.{told_more-nil}
-use Rattle.yr_types.specs.Resolving.{AreExternals}
+use Rattle.yr_checks.specs.Resolving.{AreExternals}
 use Rattle.yr_words.specs.declared.value.Given.{Given as GivenRow}
 use Rattle.yr_words.specs.Commands.{Command, givens_of}
 use Rattle.yr_words.specs.Shown.{given_shown}

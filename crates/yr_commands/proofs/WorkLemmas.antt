@@ -13,11 +13,11 @@ use Rattle.yr_rules.specs.Rules.{PlainRules}
 use Rattle.yr_meaning.specs.Matches.{match_lists_of}
 use Rattle.yr_meaning.specs.Truths.{truths_of}
 use Rattle.yr_meaning.specs.Scan.{environment_of}
-use Rattle.yr_code.specs.Preserves.{IsTarget, HaveKindsOf, externals_in}
-use Rattle.yr_code.specs.Shape.{IsCompiled}
-use Rattle.yr_compiling.specs.Finds.{FindsSame}
+use Rattle.yr_preserves.specs.Preserves.{IsTarget, HaveKindsOf, externals_in}
+use Rattle.yr_preserves.specs.Shape.{IsCompiled}
+use Rattle.yr_compiler.specs.Finds.{FindsSame}
 use Rattle.yr_modules.specs.Joined.{all_modules}
-use Rattle.yr_scanning.specs.Scanned.{module_values, IsScan}
+use Rattle.yr_scan.specs.Scanned.{module_values, IsScan}
 use Rattle.yr_words.specs.Commands.{Work}
 use Rattle.yr_workload.specs.Workload.{Workload, workload_of}
 use Rattle.yr_outcome.specs.declared.answer.Answer.{Answer}

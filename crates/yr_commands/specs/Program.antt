@@ -1,6 +1,6 @@
 -- The setting of the program.
 use Rattle.yr_modules.specs.Joined.{all_modules}
-use Rattle.yr_scanning.specs.Scanned.{module_values}
+use Rattle.yr_scan.specs.Scanned.{module_values}
 use Rattle.yr_outcome.specs.declared.answer.Answer.{Answer}
 use Rattle.yr_outcome.specs.declared.answer.Answer.TheVariants as answer
 use Rattle.yr_outcome.specs.Answers.{Setting}

@@ -11,7 +11,7 @@ ghost use Rattle.yr_outcome.specs.Outcome as outcome;
 ghost use Rattle.yr_outcome.specs.Steps.{FitsAnswer, HasCause};
 ghost use Rattle.yr_rules.specs.Rules.{rules_of};
 ghost use Rattle.yr_rules.specs.Wellformed.{IsShortWord};
-ghost use Rattle.yr_types.specs.Resolving.{AreExternals};
+ghost use Rattle.yr_checks.specs.Resolving.{AreExternals};
 ghost use Rattle.yr_words.specs.Commands.{Check};
 ghost use Rattle.yr_words.specs.Shown.{source_shown, given_shown};
 ghost use Rattle.yr_commands.specs.Program.{all_setting};
@@ -19,9 +19,9 @@ ghost use Rattle.yr_commands.specs.Program.{all_setting};
 use itoa::Buffer;
 use std::alloc::{AllocError, Global};
 use yr_base::{Sink, Store};
+use yr_checks::CheckedRules;
 use yr_front::checked_rules;
 use yr_outcome::{Answer, join, show};
-use yr_types::CheckedRules;
 use yr_words::{Given, Source};
 
 // `rules N, strings M`

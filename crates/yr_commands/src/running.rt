@@ -23,7 +23,7 @@ use crate::scanning::scan;
 use crate::working::work;
 use std::alloc::{AllocError, Global};
 use yr_base::{NoMemory, Sink, Store};
-use yr_numbered::{Name, first_twice};
+use yr_name_tables::{Name, first_twice};
 use yr_outcome::{Answer, Status, refuse};
 use yr_scan::scan_by_image;
 use yr_words::{Command, Given, read_words};

@@ -2,7 +2,7 @@
 
 ghost use Rattle.std.specs.Prelude.{◌≡◌, ◌≤◌, ℕ, List, Option, None, Some, All, length, map};
 ghost use Rattle.yr_base.specs.Store.{Files};
-ghost use Rattle.yr_compiling.specs.Built.{HaveIds};
+ghost use Rattle.yr_preserves.specs.RuleIds.{HaveIds};
 ghost use Rattle.yr_outcome.specs.Fits.{seen};
 ghost use Rattle.yr_outcome.specs.Front.{Reading, IsReading};
 ghost use Rattle.yr_outcome.specs.Front as front;
@@ -10,7 +10,7 @@ ghost use Rattle.yr_outcome.specs.Outcome as outcome;
 ghost use Rattle.yr_outcome.specs.Steps.{FitsAnswer, HasCause};
 ghost use Rattle.yr_rules.specs.Rules.{rules_of};
 ghost use Rattle.yr_rules.specs.Wellformed.{IsShortWord};
-ghost use Rattle.yr_types.specs.Resolving.{AreExternals};
+ghost use Rattle.yr_checks.specs.Resolving.{AreExternals};
 ghost use Rattle.yr_words.specs.Commands.{Scan};
 ghost use Rattle.yr_words.specs.Shown.{flags_shown, source_shown, given_shown};
 ghost use Rattle.yr_commands.specs.Program.{all_setting};
@@ -18,10 +18,10 @@ ghost use Rattle.yr_commands.specs.Program.{all_setting};
 use crate::compiling::image_of;
 use std::alloc::Global;
 use yr_base::{Sink, Store};
+use yr_checks::CheckedRules;
 use yr_front::checked_rules;
 use yr_outcome::Answer;
 use yr_scan::scan_compiled;
-use yr_types::CheckedRules;
 use yr_words::{Flags, Given, Source};
 
 // The report of checked rules.

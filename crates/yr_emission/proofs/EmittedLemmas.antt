@@ -11,8 +11,8 @@ use Rattle.yr_rules.specs.Weight.{node_weight}
 use Rattle.yr_image.specs.declared.rows.CodeRow.{CodeRow}
 use Rattle.yr_image.specs.declared.instruction.Instruction.TheVariants as i
 use Rattle.yr_image.specs.Image.{Image}
-use Rattle.yr_tables.specs.Growing.{BeginsAs, Grows}
-use Rattle.yr_tables.proofs.GrowLemmas.{grows_same, kept_range}
+use Rattle.yr_draft.specs.Growing.{BeginsAs, Grows}
+use Rattle.yr_draft.proofs.GrowLemmas.{grows_same, kept_range}
 use Rattle.yr_splits.proofs.ProgramLemmas.{programs_stay}
 use Rattle.yr_emission.specs.Parts.{Part, one, part_of, rule_part}
 use Rattle.yr_emission.specs.Standing.{Stands}

@@ -10,7 +10,7 @@ use Rattle.yr_meaning.specs.Trial.{Occurs, occurs_in}
 use Rattle.yr_meaning.proofs.TrialLemmas.{occurs-decides}
 use Rattle.yr_machine.specs.Operations.{Context}
 use Rattle.yr_machine.specs.ImageRun.{KnowsPrograms, Occurs as OccursIn}
-use Rattle.yr_tables.specs.Programs.{IsProgramOf}
+use Rattle.yr_draft.specs.Programs.{IsProgramOf}
 
 module _ (context : Context) (tree : Tree) (program : ℕ) (stands : IsProgramOf context.image false tree program) where
   to_pattern : (text : List ℕ) → OccursIn context.image program text → Occurs tree text

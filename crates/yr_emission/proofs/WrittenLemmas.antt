@@ -14,10 +14,10 @@ use Rattle.yr_image.specs.declared.instruction.OfForm.{OfForm}
 use Rattle.yr_image.specs.declared.instruction.QuantifierKind.{QuantifierKind}
 use Rattle.yr_image.specs.Image.{Image}
 use Rattle.yr_image.specs.Instructions.{instruction_of}
-use Rattle.yr_tables.specs.Growing.{Grows, move_behind, moves_behind}
-use Rattle.yr_tables.specs.Added.{HasText, row_behind, with_program}
-use Rattle.yr_tables.specs.Programs.{AcceptSpans, IsProgramOf}
-use Rattle.yr_tables.proofs.GrowLemmas.{grows_after, grows_same, program_added, program_grows, kept_range, longer}
+use Rattle.yr_draft.specs.Growing.{Grows, move_behind, moves_behind}
+use Rattle.yr_draft.specs.Added.{HasText, row_behind, with_program}
+use Rattle.yr_draft.specs.Programs.{AcceptSpans, IsProgramOf}
+use Rattle.yr_draft.proofs.GrowLemmas.{grows_after, grows_same, program_added, program_grows, kept_range, longer}
 use Rattle.yr_splits.proofs.ProgramLemmas.{programs_stay, programs_more}
 use Rattle.yr_emission.specs.Parts.{Part, Line, exactly, gives_text, asks, one, text_part, pattern_part, nothing, both, skipping, looping, set_part}
 use Rattle.yr_emission.specs.Standing.{IsTextAt}

@@ -6,8 +6,8 @@ use Rattle.yr_image.specs.declared.instruction.Instruction.{Instruction}
 use Rattle.yr_image.specs.Image.{Image}
 use Rattle.yr_image.specs.Instructions.{instruction_of}
 use Rattle.yr_machine.specs.Machine.{instruction_at}
-use Rattle.yr_tables.specs.Growing.{BeginsAs, Grows}
-use Rattle.yr_tables.proofs.GrowLemmas.{program_grows, kept_at}
+use Rattle.yr_draft.specs.Growing.{BeginsAs, Grows}
+use Rattle.yr_draft.proofs.GrowLemmas.{program_grows, kept_at}
 use Rattle.yr_emission.specs.Parts.{Part, Line, exactly, gives_text, asks}
 use Rattle.yr_emission.specs.Sayable.{LineIsSayable, AreSayable}
 use Rattle.yr_emission.specs.Standing.{HasAt, Fulfils, Says, Stands}

@@ -7,7 +7,7 @@ use Rattle.yr_rules.specs.Kinds.{kind_of}
 use Rattle.yr_rules.specs.Fits.{Rows, Fits}
 use Rattle.yr_image.specs.declared.rows.CodeRow.{CodeRow}
 use Rattle.yr_image.specs.Image.{Image}
-use Rattle.yr_tables.specs.Growing.{Grows}
+use Rattle.yr_draft.specs.Growing.{Grows}
 use Rattle.yr_splits.specs.Programs.{AreProgramRows}
 use Rattle.yr_emission.specs.Parts.{rule_part}
 use Rattle.yr_emission.specs.Standing.{Stands}

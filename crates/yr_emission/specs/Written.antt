@@ -4,7 +4,7 @@ use Rattle.yr_image.specs.declared.rows.CodeRow.{CodeRow}
 use Rattle.yr_image.specs.declared.instruction.Instruction.{Instruction}
 use Rattle.yr_image.specs.Image.{Image}
 use Rattle.yr_image.specs.Instructions.{instruction_of}
-use Rattle.yr_tables.specs.Growing.{Grows}
+use Rattle.yr_draft.specs.Growing.{Grows}
 use Rattle.yr_splits.specs.Programs.{AreProgramRows}
 use Rattle.yr_emission.specs.Parts.{Part, Line, exactly, gives_text, asks}
 use Rattle.yr_emission.specs.Sayable.{IsSayable}

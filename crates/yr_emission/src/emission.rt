@@ -20,9 +20,9 @@ use crate::putting::{
 };
 use std::alloc::Global;
 use yr_base::{Kind, NoMemory};
+use yr_draft::ImageDraft;
 use yr_image::{CodeRow, Instruction};
 use yr_rules::{External, Node, NodeLink, NodeOver, NodePlace, NodeQuant, NodeRange, PrefixOp};
-use yr_tables::ImageDraft;
 
 /// The rows of a condition.
 #[cycle(emit)]

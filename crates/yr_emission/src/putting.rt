@@ -11,11 +11,11 @@ ghost use Rattle.yr_emission.specs.Written.{SaysIf, HasRow, Written};
 use crate::row::row_of;
 use std::alloc::Global;
 use yr_base::NoMemory;
+use yr_draft::ImageDraft;
 use yr_image::{Arithmetic, CodeRow, Instruction, OfForm, QuantifierKind};
 use yr_pattern::size;
 use yr_program::assemble;
 use yr_rules::{Members, Pattern};
-use yr_tables::ImageDraft;
 
 /// The most moves of a program.
 const MOST_SIZE: u64 = 65535;

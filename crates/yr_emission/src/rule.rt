@@ -9,9 +9,9 @@ use crate::emission::emit;
 use crate::putting::{place, put};
 use std::alloc::Global;
 use yr_base::NoMemory;
+use yr_draft::ImageDraft;
 use yr_image::Instruction;
 use yr_rules::{External, Node};
-use yr_tables::ImageDraft;
 
 /// Rows of code of an image.
 #[derive(Clone, Copy, Debug, PartialEq, Eq)]

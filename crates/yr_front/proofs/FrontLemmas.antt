@@ -27,9 +27,9 @@ use Rattle.yr_outcome.proofs.CallerLemmas.{refuses, FitsAnswer-after_reads}
 use Rattle.yr_rules.specs.Wellformed.{IsShortWord}
 use Rattle.yr_syntax.specs.Declaration.{declarations_of}
 use Rattle.yr_syntax.specs.Forms.{HaveForms}
-use Rattle.yr_types.specs.declared.unit.Unit.{Unit as UnitRow}
-use Rattle.yr_types.specs.Sources.{unit_of}
-use Rattle.yr_types.specs.Resolving.{IsUnit, AreUnits}
+use Rattle.yr_checks.specs.declared.unit.Unit.{Unit as UnitRow}
+use Rattle.yr_checks.specs.Sources.{unit_of}
+use Rattle.yr_checks.specs.Resolving.{IsUnit, AreUnits}
 use Rattle.yr_words.specs.declared.command.Source.{Source as SourceRow}
 use Rattle.yr_words.specs.Shown.{source_shown}
 use Rattle.yr_front.specs.declared.unit.SourceUnit.{SourceUnit}

@@ -8,14 +8,14 @@ use Rattle.yr_values.specs.declared.names.ModuleEntry.TheVariants as row
 use Rattle.yr_values.specs.Names.{NamedRow, NamedModule}
 use Rattle.yr_image.specs.ModuleTable.{field_row_of, call_row_of}
 use Rattle.yr_meaning.specs.Fitting.{ids_of}
-use Rattle.yr_elf.specs.ModuleRows.{elf_module}
-use Rattle.yr_hash.specs.ModuleRows.{hash_module}
-use Rattle.yr_pe.specs.ModuleRows.{pe_module}
+use Rattle.yr_modules.specs.Elf.ModuleRows.{elf_module}
+use Rattle.yr_modules.specs.Hash.ModuleRows.{hash_module}
+use Rattle.yr_modules.specs.Pe.ModuleRows.{pe_module}
 use Rattle.yr_rules.specs.Rules.{PlainRules, Stored, rules_of}
 use Rattle.yr_modules.specs.Joined.{all_modules, all_rows, has_index, EntryIsListed, IsListed}
-use Rattle.yr_types.specs.Resolving.{IsRow, is_indexed, row_ids, HaveRowIds}
-use Rattle.yr_compiling.specs.Built.{HaveIds}
-use Rattle.yr_compiling.proofs.IdLemmas.{all_carried}
+use Rattle.yr_checks.specs.Resolving.{IsRow, is_indexed, row_ids, HaveRowIds}
+use Rattle.yr_preserves.specs.RuleIds.{HaveIds}
+use Rattle.yr_rules.proofs.IdLemmas.{all_carried}
 
 eqb-swap : (a b : ℕ) → eqb a b ≡ eqb b a
 eqb-swap zero zero = refl

@@ -4,7 +4,7 @@ use Rattle.std.specs.Option.{option_map}
 use Rattle.std.proofs.lemmas.Option.{slice_get-map, slice_get_past}
 use Rattle.yr_syntax.specs.Declaration.{Declaration}
 use Rattle.yr_syntax.specs.Declaration as declaration
-use Rattle.yr_types.specs.Sources.{UnitTree, Item, Import, Rule, PlacedRule, item_of, items_from, items_of, placed_after, rules_in}
+use Rattle.yr_checks.specs.Sources.{UnitTree, Item, Import, Rule, PlacedRule, item_of, items_from, items_of, placed_after, rules_in}
 use Rattle.yr_outcome.specs.Front.{name_of, rule_name}
 use Rattle.yr_front.specs.RuleNames.{names_among, all_names, Finds}
 

@@ -1,8 +1,8 @@
 -- Texts of refusals, in pieces.
 use Rattle.std.proofs.Common.{◌≡◌, ℕ, List, [], ◌∷◌, ◌++◌, Option, None, codes, refl, sym, ap, ◌∙◌, append_assoc, append-nil}
-use Rattle.yr_types.specs.declared.refusal.Code.{Code}
-use Rattle.yr_types.specs.declared.refusal.Code.TheVariants as code
-use Rattle.yr_types.specs.Sources.{UnitTree}
+use Rattle.yr_checks.specs.declared.refusal.Code.{Code}
+use Rattle.yr_checks.specs.declared.refusal.Code.TheVariants as code
+use Rattle.yr_checks.specs.Sources.{UnitTree}
 use Rattle.yr_outcome.specs.Texts.{line, code_name}
 use Rattle.yr_outcome.specs.Front.{check_text}
 

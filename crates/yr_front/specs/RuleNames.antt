@@ -3,7 +3,7 @@ use Rattle.std.specs.Prelude.{◌≡◌, ℕ, ◌+◌, List, [], ◌∷◌, leng
 use Rattle.std.specs.List.{flat_map}
 use Rattle.yr_syntax.specs.Declaration.{Declaration}
 use Rattle.yr_syntax.specs.Declaration as declaration
-use Rattle.yr_types.specs.Sources.{UnitTree}
+use Rattle.yr_checks.specs.Sources.{UnitTree}
 
 -- the names of the rules among declarations
 abbrev pub names_among : List Declaration → List (List ℕ)

@@ -2,7 +2,7 @@
 
 ghost use Rattle.std.specs.Prelude.{◌≡◌, IfOk, IfErr, Ok, List, [], None, MatchResult, map};
 ghost use Rattle.yr_base.specs.Gives.{Gives};
-ghost use Rattle.yr_compiling.specs.Built.{HaveIds};
+ghost use Rattle.yr_preserves.specs.RuleIds.{HaveIds};
 ghost use Rattle.yr_modules.specs.Joined.{all_modules};
 ghost use Rattle.yr_outcome.specs.declared.status.Status.TheVariants as status;
 ghost use Rattle.yr_outcome.specs.Front.{Reading, IsReading, check_refusal, with_checks, with_units, given_for};
@@ -10,9 +10,9 @@ ghost use Rattle.yr_outcome.specs.Front as front;
 ghost use Rattle.yr_outcome.specs.Steps.{IsRefusalOf};
 ghost use Rattle.yr_outcome.specs.Texts.{at_line, finding_text, place_text, spaced_text};
 ghost use Rattle.yr_rules.specs.Rules.{rules_of};
-ghost use Rattle.yr_types.specs.Refusals.{refusal_of, resolved};
-ghost use Rattle.yr_types.specs.Resolving.{AreExternals, AreUnits, refusal_in};
-ghost use Rattle.yr_types.specs.Sources.{unit_of};
+ghost use Rattle.yr_checks.specs.Refusals.{refusal_of, resolved};
+ghost use Rattle.yr_checks.specs.Resolving.{AreExternals, AreUnits, refusal_in};
+ghost use Rattle.yr_checks.specs.Sources.{unit_of};
 ghost use Rattle.yr_values.specs.Names.{NamedModule};
 ghost use Rattle.yr_words.specs.Shown.{given_shown};
 ghost use Rattle.yr_front.specs.Units.{unit_shown, RefusesAs, IsRulesAnswer};
@@ -24,10 +24,10 @@ use crate::refusing::refuse_at;
 use crate::unit::SourceUnit;
 use itoa::Buffer;
 use std::alloc::{AllocError, Global};
+use yr_checking::resolve;
+use yr_checks::{CheckedRules, Code, Refusal, ResolveFault, Unit};
 use yr_modules::module_names;
 use yr_outcome::{Answer, Status, join, refuse};
-use yr_resolving::resolve;
-use yr_types::{CheckedRules, Code, Refusal, ResolveFault, Unit};
 use yr_words::Given;
 
 // A blank and a text, where there is one.

@@ -2,7 +2,7 @@
 
 ghost use Rattle.std.specs.Prelude.{◌≡◌, ◌≤◌, ℕ, List, Option, Some, Ok, All, IfErr, IfOk, MatchResult, length, map};
 ghost use Rattle.yr_base.specs.Store.{Files};
-ghost use Rattle.yr_compiling.specs.Built.{HaveIds};
+ghost use Rattle.yr_preserves.specs.RuleIds.{HaveIds};
 ghost use Rattle.yr_modules.specs.Joined.{all_modules};
 ghost use Rattle.yr_outcome.specs.Answers.{Setting};
 ghost use Rattle.yr_outcome.specs.Fits.{seen};
@@ -12,7 +12,7 @@ ghost use Rattle.yr_outcome.specs.Outcome.{Found, Ending, with_rules};
 ghost use Rattle.yr_outcome.specs.Steps.{FitsAnswer, HasCause, HasRead};
 ghost use Rattle.yr_rules.specs.Rules.{PlainRules, rules_of};
 ghost use Rattle.yr_rules.specs.Wellformed.{IsShortWord};
-ghost use Rattle.yr_types.specs.Resolving.{AreExternals};
+ghost use Rattle.yr_checks.specs.Resolving.{AreExternals};
 ghost use Rattle.yr_values.specs.Names.{NamedModule};
 ghost use Rattle.yr_words.specs.Shown.{source_shown, given_shown};
 ghost use Rattle.yr_front.specs.Units.{unit_shown, RefusesAs, RefusedBy, IsRulesAnswer};
@@ -24,8 +24,8 @@ use crate::refusing::refuse_gathering;
 use crate::unit::SourceUnit;
 use std::alloc::Global;
 use yr_base::Store;
+use yr_checks::CheckedRules;
 use yr_outcome::Answer;
-use yr_types::CheckedRules;
 use yr_words::{Given, Source};
 
 // The grammar and the checks on gathered rule files.

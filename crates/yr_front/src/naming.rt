@@ -5,13 +5,13 @@ ghost use Rattle.yr_lexer.specs.Sources.{file_of};
 ghost use Rattle.yr_lexer.specs.declared.fault.LexFault.TheVariants as lex;
 ghost use Rattle.yr_outcome.specs.Front.{file_name, files_of, rule_name};
 ghost use Rattle.yr_outcome.specs.Texts.{lex_name, lex_line, code_name};
-ghost use Rattle.yr_types.specs.Sources.{unit_of};
+ghost use Rattle.yr_checks.specs.Sources.{unit_of};
 ghost use Rattle.yr_front.specs.Units.{unit_shown};
 
 use crate::unit::SourceUnit;
+use yr_checks::{Code, Unit};
 use yr_lexer::{LexFault, SourceFile};
 use yr_syntax::{Decl, Rule};
-use yr_types::{Code, Unit};
 
 /// The name of a fault of the tokens.
 pub fn lex_name(fault: LexFault) -> &'static str

@@ -4,11 +4,11 @@ ghost use Rattle.std.specs.Prelude.{◌≡◌, map};
 ghost use Rattle.std.specs.Option.{option_map};
 ghost use Rattle.yr_outcome.specs.Front.{rule_name};
 ghost use Rattle.yr_syntax.specs.Declaration.{declaration_of, declarations_of};
-ghost use Rattle.yr_types.specs.Sources.{unit_of};
+ghost use Rattle.yr_checks.specs.Sources.{unit_of};
 ghost use Rattle.yr_front.specs.RuleNames.{names_among, all_names, Finds};
 
+use yr_checks::Unit;
 use yr_syntax::Decl;
-use yr_types::Unit;
 
 // The name of a rule among declarations, by how many rules stand before it. Where there is none, so many less are left.
 fn find_among<'d>(decls: &'d [Decl], left: &mut u32) -> Option<&'d [u8]>

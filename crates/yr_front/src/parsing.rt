@@ -3,7 +3,7 @@
 ghost use Rattle.std.specs.Prelude.{◌≡◌, ◌++◌, ◌∷◌, [], All, Ok, IfOk, IfErr, MatchResult, OnOk, map, length};
 ghost use Rattle.yr_syntax.specs.Forms.{HaveForms};
 ghost use Rattle.yr_syntax.specs.Declaration.{declarations_of};
-ghost use Rattle.yr_types.specs.Sources.{unit_of};
+ghost use Rattle.yr_checks.specs.Sources.{unit_of};
 ghost use Rattle.yr_outcome.specs.Front.{Reading, IsReading, unit_tree, unit_trees};
 ghost use Rattle.yr_values.specs.Names.{NamedModule};
 ghost use Rattle.yr_front.specs.Units.{unit_shown, FitsParseFault, RefusesAs, IsRulesAnswer};
@@ -12,9 +12,9 @@ ghost use Rattle.std.specs.Prelude.{List};
 use crate::refusing::refuse_parse;
 use crate::unit::SourceUnit;
 use std::alloc::Global;
+use yr_checks::Unit;
 use yr_outcome::Answer;
 use yr_parser::{ParseFault, parse};
-use yr_types::Unit;
 
 // The declarations of one rule file.
 fn parse_unit(alloc: Global, unit: &SourceUnit<'_>) -> Result<Unit, ParseFault>

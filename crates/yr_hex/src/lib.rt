@@ -10,8 +10,6 @@ mod jump;
 pub mod laws;
 mod part;
 mod reading;
-#[cfg(test)]
-mod tests;
 
 pub use fault::HexFault;
 pub use reading::read_hex;

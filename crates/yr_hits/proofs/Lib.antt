@@ -6,3 +6,12 @@ pub mod HitLemmas
 pub mod GrowLemmas
 pub mod StartLemmas
 pub mod SplitLemmas
+pub mod OrderLemmas
+pub mod PaidLemmas
+pub mod FitLemmas
+pub mod SweepLemmas
+pub mod EndLemmas
+pub mod PlaceLemmas
+pub mod SweepStartLemmas
+pub mod SpanLemmas
+pub mod SweepSplitLemmas

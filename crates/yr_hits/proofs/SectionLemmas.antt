@@ -13,7 +13,7 @@ use Rattle.yr_image.specs.Reading.{image_in, program_row, string_row}
 use Rattle.yr_image.specs.Sections.{HasSections, widths, version_in, rows_of, size_of, place_of, bytes_of}
 use Rattle.yr_machine.specs.Wellformed.{IsWellformed}
 use Rattle.yr_machine.specs.Budget.{moves_count}
-use Rattle.yr_verifier.proofs.CallerLemmas.{has_sections}
+use Rattle.yr_machine.proofs.CallerLemmas.{has_sections}
 
 -- a section has all the bytes of its rows
 pub section_bytes : (bytes : List ℕ) (k : ℕ) → HasSections bytes → k < 14 → length (bytes_of bytes k) ≡ rows_of bytes k * slice_index (widths (version_in bytes)) k

@@ -6,8 +6,6 @@ mod lanes;
 mod pairing;
 mod scan;
 mod skip_set;
-#[cfg(test)]
-mod tests;
 
 pub use pairing::{same_fold, same_xor};
 pub use skip_set::{SkipSet, skip_to};

@@ -27,9 +27,6 @@ use crate::tokens::Tokens;
 use std::alloc::{AllocError, Global};
 use yr_base::{ReadAnswer, Store};
 
-#[cfg(test)]
-mod tests;
-
 /// All rule text together has at most this many bytes.
 const TEXT_LIMIT: u32 = 16_777_216;
 

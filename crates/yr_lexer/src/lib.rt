@@ -14,8 +14,6 @@ mod reserved;
 mod scan;
 mod sign;
 mod source;
-#[cfg(test)]
-mod tests;
 mod text;
 mod token;
 mod tokens;
@@ -25,6 +23,6 @@ pub use gathering::gather;
 pub use laws::{each_text_has_a_meaning, each_text_has_an_answer, one_answer, one_meaning};
 pub use lexing::lex;
 pub use source::{FileToken, SourceFile};
-pub use text::unescape;
+pub use text::{has_good_escapes, unescape};
 pub use token::{Token, TokenKind};
 pub use tokens::Tokens;

@@ -8,10 +8,10 @@ use Rattle.yr_values.specs.Modules.{Suits}
 use Rattle.yr_image.specs.ModuleTable.{field_row_of, call_row_of}
 use Rattle.yr_machine.specs.Budget.{text_length}
 use Rattle.yr_machine.specs.ImageRun.{FitModules}
-use Rattle.yr_elf.specs.Fields as elf
-use Rattle.yr_elf.proofs.FieldLemmas.{elf_field-suits, elf_field-short}
-use Rattle.yr_hash.proofs.LengthLemmas.{call-suits, call-short}
-use Rattle.yr_pe.proofs.FieldLemmas.{field-suits, field-short}
+use Rattle.yr_modules.specs.Elf.Fields as elf
+use Rattle.yr_modules.proofs.ElfFieldLemmas.{elf_field-suits, elf_field-short}
+use Rattle.yr_modules.proofs.HashLengthLemmas.{call-suits, call-short}
+use Rattle.yr_modules.proofs.PeFieldLemmas.{field-suits, field-short}
 use Rattle.yr_modules.specs.Joined.{module_field, module_call}
 use Rattle.yr_modules.proofs.TableLemmas.{field_kinds, call_kinds}
 

@@ -1,3 +1,11 @@
 pub mod ListedRows
 pub mod TableLemmas
 pub mod FitLemmas
+pub mod ElfNameLemmas
+pub mod ElfEntryPointLemmas
+pub mod ElfFieldLemmas
+pub mod ElfModuleRowLemmas
+pub mod PeFirstLemmas
+pub mod PeNameLemmas
+pub mod PeFieldLemmas
+pub mod HashLengthLemmas

@@ -2,9 +2,9 @@
 use Rattle.std.proofs.Common.{◌++◌, refl}
 use Rattle.std.specs.List.{All}
 use Rattle.std.proofs.lemmas.List.Elements.{All-append, All-from_recursion}
-use Rattle.yr_elf.specs.ModuleRows as elf
-use Rattle.yr_hash.specs.ModuleRows.{hash_module}
-use Rattle.yr_pe.specs.ModuleRows as pe
+use Rattle.yr_modules.specs.Elf.ModuleRows as elf
+use Rattle.yr_modules.specs.Hash.ModuleRows.{hash_module}
+use Rattle.yr_modules.specs.Pe.ModuleRows as pe
 use Rattle.yr_modules.specs.Joined.{IsListed, all_rows}
 
 elf_number_rows-listed : All IsListed elf.number_rows

@@ -6,9 +6,9 @@ use Rattle.std.proofs.lemmas.Bool.{ne_eqb}
 use Rattle.yr_base.specs.declared.value.Kind.{Kind}
 use Rattle.yr_base.specs.declared.value.Kind.TheVariants as kind
 use Rattle.yr_image.specs.ModuleTable.{is_from, field_row_of, call_row_of}
-use Rattle.yr_elf.specs.Fields as elf
-use Rattle.yr_hash.specs.Digests as hash
-use Rattle.yr_pe.specs.Fields as pe
+use Rattle.yr_modules.specs.Elf.Fields as elf
+use Rattle.yr_modules.specs.Hash.Digests as hash
+use Rattle.yr_modules.specs.Pe.Fields as pe
 
 -- kinds are equal where a test says so
 abbrev same : Kind → Kind → Bool

@@ -7,12 +7,12 @@ use Rattle.yr_values.specs.Names.{NamedRow, NamedModule}
 use Rattle.yr_values.specs.declared.names.ModuleEntry.{ModuleEntry}
 use Rattle.yr_values.specs.declared.names.ModuleEntry.TheVariants.{Constant, Field, Array, Call}
 use Rattle.yr_image.specs.ModuleTable.{field_row_of, call_row_of}
-use Rattle.yr_elf.specs.Fields.{elf_field}
-use Rattle.yr_elf.specs.ModuleRows.{elf_module}
-use Rattle.yr_hash.specs.Digests.{digest_with, digest_or}
-use Rattle.yr_hash.specs.ModuleRows.{hash_module}
-use Rattle.yr_pe.specs.Fields.{field_with, field_or}
-use Rattle.yr_pe.specs.ModuleRows.{pe_module}
+use Rattle.yr_modules.specs.Elf.Fields.{elf_field}
+use Rattle.yr_modules.specs.Elf.ModuleRows.{elf_module}
+use Rattle.yr_modules.specs.Hash.Digests.{digest_with, digest_or}
+use Rattle.yr_modules.specs.Hash.ModuleRows.{hash_module}
+use Rattle.yr_modules.specs.Pe.Fields.{field_with, field_or}
+use Rattle.yr_modules.specs.Pe.ModuleRows.{pe_module}
 
 -- the modules that rules may import
 abbrev pub all_modules : List NamedModule

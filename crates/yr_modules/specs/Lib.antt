@@ -1,1 +1,5 @@
 pub mod Joined
+pub mod Listed
+pub mod Elf
+pub mod Pe
+pub mod Hash

@@ -4,11 +4,11 @@ ghost use Rattle.std.specs.Prelude.{◌≡◌, ◌++◌, ℕ, ℤ, map, IfOk, On
 ghost use Rattle.yr_values.specs.Names.{module_shown, names_shown};
 ghost use Rattle.yr_modules.specs.Joined.{all_modules, module_field, module_call};
 
+use crate::elf::{Elf, elf_names};
+use crate::hash::{WithHash, hash_names};
+use crate::pe::{WithPe, pe_names};
 use std::alloc::Global;
 use yr_base::NoMemory;
-use yr_elf::{Elf, elf_names};
-use yr_hash::{WithHash, hash_names};
-use yr_pe::{WithPe, pe_names};
 use yr_values::{Module, ModuleNames};
 
 /// The values of all modules for a file. It lends from the file; each value is read or made when it is asked for.

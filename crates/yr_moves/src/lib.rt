@@ -7,8 +7,6 @@ mod occurrence;
 mod pass;
 mod rows;
 mod start_walk;
-#[cfg(test)]
-mod tests;
 
 pub use ends::best_end;
 pub use marks::Marks;

@@ -4,7 +4,7 @@ use Rattle.std.specs.Prelude.{◌≡◌, ℕ, ◌+◌, List, [], ◌∷◌, nat_
 use Rattle.yr_base.specs.Store.{Files}
 use Rattle.yr_rules.specs.Rules.{PlainRules}
 use Rattle.yr_image.specs.Sections.{most_bytes}
-use Rattle.yr_code.specs.Preserves.{target_limit, externals_in}
+use Rattle.yr_preserves.specs.Preserves.{target_limit, externals_in}
 use Rattle.yr_workload.specs.Workload.{workload_of}
 use Rattle.yr_words.specs.Values.{Given}
 use Rattle.yr_words.specs.Commands.{Source, Command, Scan, ScanImage, Compile, Check, Work, givens_of}

@@ -8,8 +8,8 @@ use Rattle.yr_syntax.specs.Declaration as declaration
 use Rattle.yr_syntax.specs.Declaration.{Declaration}
 use Rattle.yr_values.specs.Values.{Undefined, Number}
 use Rattle.yr_meaning.specs.Scan.{ModuleValues}
-use Rattle.yr_types.specs.Examples as rule
-use Rattle.yr_nodes.specs.Readers.{HexRefusal, RegexRefusal}
+use Rattle.yr_checks.specs.Examples as rule
+use Rattle.yr_conditions.specs.Readers.{HexRefusal, RegexRefusal}
 use Rattle.yr_rules.specs.Rules.{PlainExternal}
 use Rattle.yr_words.specs.Values.{Given, given_of}
 use Rattle.yr_outcome.specs.Front.{Reading, file_name}

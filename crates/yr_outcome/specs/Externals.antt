@@ -3,7 +3,7 @@ use Rattle.std.specs.Prelude.{ℕ, Bool, true, false, List, [], ◌∷◌, map, 
 use Rattle.std.specs.Str.{bytes_eq}
 use Rattle.yr_values.specs.Values.{Value, Number, Flag, Text}
 use Rattle.yr_rules.specs.Rules.{PlainExternal}
-use Rattle.yr_numbered.specs.Names.{first, first_twice}
+use Rattle.yr_name_tables.specs.Names.{first, first_twice}
 use Rattle.yr_words.specs.Values.{Given}
 use Rattle.yr_outcome.specs.declared.status.Status.TheVariants as status
 use Rattle.yr_outcome.specs.Texts.{external_text}

@@ -10,13 +10,13 @@ use Rattle.yr_syntax.specs.Declaration.{Declaration}
 use Rattle.yr_parser.specs.Parsing.{GrammarFault, Syntax, TooDeep, IsParsed}
 use Rattle.yr_values.specs.Names.{NamedModule}
 use Rattle.yr_rules.specs.Rules.{PlainExternal, PlainRules}
-use Rattle.yr_types.specs.declared.refusal.Code.TheVariants as code
-use Rattle.yr_types.specs.declared.refusal.Code.{Code}
-use Rattle.yr_nodes.specs.Readers.{Readers}
-use Rattle.yr_nodes.specs.Readers as readers
-use Rattle.yr_types.specs.Sources.{UnitTree, PlacedRule, rules_in, items_of}
-use Rattle.yr_types.specs.Given as checks
-use Rattle.yr_types.specs.Refusals.{PlainRefusal, resolved}
+use Rattle.yr_checks.specs.declared.refusal.Code.TheVariants as code
+use Rattle.yr_checks.specs.declared.refusal.Code.{Code}
+use Rattle.yr_conditions.specs.Readers.{Readers}
+use Rattle.yr_conditions.specs.Readers as readers
+use Rattle.yr_checks.specs.Sources.{UnitTree, PlacedRule, rules_in, items_of}
+use Rattle.yr_checks.specs.Given as checks
+use Rattle.yr_checks.specs.Refusals.{PlainRefusal, resolved}
 use Rattle.yr_image.specs.declared.fault.ImageFault.{ImageFault}
 use Rattle.yr_machine.specs.Wellformed.{IsAnswer}
 use Rattle.yr_words.specs.Values.{Given}

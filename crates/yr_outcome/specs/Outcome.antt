@@ -9,9 +9,9 @@ use Rattle.yr_meaning.specs.Scan.{scan_report}
 use Rattle.yr_image.specs.declared.fault.ImageFault.{ImageFault}
 use Rattle.yr_image.specs.Sections.{most_bytes}
 use Rattle.yr_machine.specs.Hits.{hit_count}
-use Rattle.yr_code.specs.ImageReport.{ImageScan, IsImageReport}
-use Rattle.yr_code.specs.Preserves.{target_limit, externals_in}
-use Rattle.yr_code.specs.Shape.{IsCompiled}
+use Rattle.yr_preserves.specs.ImageReport.{ImageScan, IsImageReport}
+use Rattle.yr_preserves.specs.Preserves.{target_limit, externals_in}
+use Rattle.yr_preserves.specs.Shape.{IsCompiled}
 use Rattle.yr_workload.specs.Workload.{Workload, workload_of}
 use Rattle.yr_words.specs.Values.{Given}
 use Rattle.yr_words.specs.Commands.{Flags, Source, Command, Scan, ScanImage, Compile, Check, Work, givens_of}

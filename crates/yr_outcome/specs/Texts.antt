@@ -4,8 +4,8 @@ use Rattle.std.specs.List.{flat_map}
 use Rattle.yr_lexer.specs.declared.fault.LexFault.{LexFault}
 use Rattle.yr_lexer.specs.declared.fault.LexFault.TheVariants as lex
 use Rattle.yr_lexer.specs.Includes.{WalkFault, Lex, Read, Path, Cycle, Depth, TextTooLong}
-use Rattle.yr_types.specs.declared.refusal.Code.{Code}
-use Rattle.yr_types.specs.declared.refusal.Code.TheVariants as code
+use Rattle.yr_checks.specs.declared.refusal.Code.{Code}
+use Rattle.yr_checks.specs.declared.refusal.Code.TheVariants as code
 use Rattle.yr_image.specs.declared.fault.ImageFault.{ImageFault}
 use Rattle.yr_image.specs.declared.fault.ImageFault.TheVariants as image
 

@@ -4,7 +4,7 @@ ghost use Rattle.std.specs.Prelude.{◌≡◌, ℕ, List, Some, None, Ok, Err, t
 ghost use Rattle.yr_base.specs.Store.{Files};
 ghost use Rattle.yr_image.specs.declared.fault.ImageFault.TheVariants as image_fault;
 ghost use Rattle.yr_lexer.specs.declared.fault.LexFault.TheVariants as lex_fault;
-ghost use Rattle.yr_types.specs.declared.refusal.Code.TheVariants as code;
+ghost use Rattle.yr_checks.specs.declared.refusal.Code.TheVariants as code;
 ghost use Rattle.yr_lexer.specs.Includes.{Lex, Cycle, Depth, TextTooLong};
 ghost use Rattle.yr_outcome.specs.declared.status.Status.TheVariants as status;
 ghost use Rattle.yr_outcome.specs.Texts.{gather_text, finding_text, at_line, image_text};
@@ -35,7 +35,7 @@ pub fn some_reading()
     yr_lexer::each_text_has_an_answer();
     yr_lexer::each_text_has_a_meaning();
     yr_parser::tokens_have_an_answer();
-    yr_types::laws::readers();
+    yr_checks::laws::readers();
     yr_machine::laws::bytes_have_an_answer();
 }
 

@@ -8,8 +8,6 @@ pub mod laws;
 mod pattern;
 mod reversing;
 mod sizes;
-#[cfg(test)]
-mod tests;
 mod variant;
 mod widening;
 

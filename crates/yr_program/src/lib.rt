@@ -6,8 +6,6 @@ mod draft;
 mod emission;
 mod keeping;
 mod program;
-#[cfg(test)]
-mod tests;
 mod writing;
 
 pub use assembly::assemble;

@@ -10,8 +10,6 @@ mod fault;
 pub mod laws;
 mod part;
 mod regex;
-#[cfg(test)]
-mod tests;
 
 pub use fault::RegexFault;
 pub use regex::{Regex, read_regex};

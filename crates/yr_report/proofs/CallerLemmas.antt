@@ -6,7 +6,7 @@ use Rattle.yr_rows.proofs.RowLemmas.{length-rows_in}
 use Rattle.yr_answer.specs.MatchList.{Match, RisesFrom}
 use Rattle.yr_image.specs.Reading.{image_in, rule_row, string_row}
 use Rattle.yr_image.specs.Sections.{HasSections, widths, rule_width, version_in, rows_of, size_of, place_of, bytes_of}
-use Rattle.yr_matches.specs.Found.{IsReadable}
+use Rattle.yr_answer.specs.Found.{IsReadable}
 use Rattle.yr_report.specs.Made.{AreBelow}
 
 section_bytes : (bytes : List ℕ) (k : ℕ) → HasSections bytes → k < 14 → length (bytes_of bytes k) ≡ rows_of bytes k * slice_index (widths (version_in bytes)) k

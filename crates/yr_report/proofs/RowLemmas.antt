@@ -14,7 +14,7 @@ use Rattle.yr_image.specs.Reading.{image_in, rule_row, note_row, string_row}
 use Rattle.yr_image.specs.Sections.{rule_width, version_in, size_of, place_of, bytes_of}
 use Rattle.yr_machine.specs.Rows.{end_before, notes_end, strings_end, code_end, ends_sections, is_good_rule, is_good_without_rules, row_passes}
 use Rattle.yr_machine.specs.Wellformed.{IsWellformed}
-use Rattle.yr_verifier.proofs.CallerLemmas.{has_sections}
+use Rattle.yr_machine.proofs.CallerLemmas.{has_sections}
 use Rattle.yr_report.specs.Scenes.{HasRanges}
 use Rattle.yr_report.proofs.CallerLemmas.{rule_count}
 use Rattle.yr_report.proofs.RangeLemmas.{there}

@@ -12,8 +12,6 @@ mod quoting;
 mod rule;
 mod scene;
 mod string;
-#[cfg(test)]
-mod tests;
 mod text;
 mod writing;
 

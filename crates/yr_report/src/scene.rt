@@ -1,9 +1,8 @@
 //! What a report is made of.
 
-use yr_answer::ReportOptions;
+use yr_answer::{Matches, ReportOptions};
 use yr_base::Truth;
 use yr_image::ImageView;
-use yr_matches::Matches;
 
 /// An image, the matches of its strings, the truths of its rules, and what is asked for.
 #[derive(Drop)]

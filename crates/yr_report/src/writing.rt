@@ -11,7 +11,7 @@ ghost use Rattle.yr_image.specs.Views.{image_of};
 ghost use Rattle.yr_machine.specs.Listing.{image_report, listed_rule, listed_rules};
 ghost use Rattle.yr_report.specs.Adding.{waiting, Adds};
 ghost use Rattle.yr_report.specs.Scenes.{lists_of, judged_of, HasRanges, AreShut, IsGoodScene};
-ghost use Rattle.yr_verifier.specs.Verified.{bytes_of};
+ghost use Rattle.yr_machine.specs.Verified.{bytes_of};
 
 use crate::adding::add_all;
 use crate::counting::{count_reported, is_reported};
@@ -20,11 +20,10 @@ use crate::line::{Failed, Line};
 use crate::rule::put_rule;
 use crate::scene::Scene;
 use itoa::Buffer;
-use yr_answer::ReportOptions;
+use yr_answer::{Matches, ReportOptions};
 use yr_base::{PutAnswer, Sink, Truth};
 use yr_image::RuleRow;
-use yr_matches::Matches;
-use yr_verifier::VerifiedImage;
+use yr_machine::VerifiedImage;
 
 // Adds the line with the number of reported rules.
 fn add_count<O: Sink>(line: &mut Line, out: &mut O, count: u64) -> Result<(), Failed>

@@ -4,8 +4,6 @@
 mod moves;
 mod nodes;
 mod numbers;
-#[cfg(test)]
-mod tests;
 mod wellformed;
 
 pub use moves::{Assertion, Move, MoveRow, count_moves, count_sets, set_has};

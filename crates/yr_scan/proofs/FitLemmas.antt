@@ -12,7 +12,7 @@ use Rattle.yr_base.specs.declared.value.Kind.{Kind}
 use Rattle.yr_values.specs.Values.{Value, kind_of}
 use Rattle.yr_values.specs.Modules.{IsOfKind}
 use Rattle.yr_rules.specs.Rules.{PlainExternal}
-use Rattle.yr_numbered.specs.Names.{first}
+use Rattle.yr_name_tables.specs.Names.{first}
 use Rattle.yr_image.specs.declared.rows.NoteRow.{NoteRow}
 use Rattle.yr_image.specs.declared.fault.ImageFault.TheVariants.{Name}
 use Rattle.yr_image.specs.Image.{Image}
@@ -21,7 +21,7 @@ use Rattle.yr_machine.specs.ImageRun.{FitExternals, value_of}
 use Rattle.yr_machine.specs.Names.{note_name}
 use Rattle.yr_machine.specs.Roles.{kind_of_note}
 use Rattle.yr_machine.specs.Wellformed.{IsWellformed}
-use Rattle.yr_code.specs.Preserves.{external_in, externals_in, HaveKindsOf, IsGivenValue}
+use Rattle.yr_preserves.specs.Preserves.{external_in, externals_in, HaveKindsOf, IsGivenValue}
 use Rattle.yr_words.specs.Values.{Given}
 use Rattle.yr_scan.specs.declared.misfits.Misfit.{Misfit}
 use Rattle.yr_scan.specs.Misfits.{refusal_of}

@@ -1,3 +1,4 @@
 pub mod ExternalLemmas
 pub mod FitLemmas
 pub mod ReportLemmas
+pub mod ScanLemmas

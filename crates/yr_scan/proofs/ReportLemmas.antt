@@ -17,9 +17,9 @@ use Rattle.yr_machine.specs.Wellformed.{IsAnswer, IsFirstFault, IsWellformed}
 use Rattle.yr_machine.proofs.FaultLemmas.{one_fault}
 use Rattle.yr_image.specs.Sections.{most_bytes}
 use Rattle.yr_image.specs.declared.fault.ImageFault.{ImageFault}
-use Rattle.yr_code.specs.Preserves.{target_limit, IsTarget, IsGivenValue, externals_in}
-use Rattle.yr_code.specs.Shape.{IsCompiled}
-use Rattle.yr_code.specs.ImageReport.{IsImageReport}
+use Rattle.yr_preserves.specs.Preserves.{target_limit, IsTarget, IsGivenValue, externals_in}
+use Rattle.yr_preserves.specs.Shape.{IsCompiled}
+use Rattle.yr_preserves.specs.ImageReport.{IsImageReport}
 use Rattle.yr_words.specs.Commands.{Flags, ScanImage}
 use Rattle.yr_words.specs.Values.{Given}
 use Rattle.yr_outcome.specs.declared.answer.Answer.{Answer}
@@ -33,7 +33,7 @@ use Rattle.yr_outcome.specs.Front.{Reading, refusal}
 use Rattle.yr_outcome.specs.Texts.{too_long}
 use Rattle.yr_outcome.specs.Steps.{Endings, Ends, FitsAnswer, HasRead}
 use Rattle.yr_outcome.proofs.CallerLemmas.{FitsAnswer-after_reads}
-use Rattle.yr_scanning.specs.Scanned.{IsScan, module_values}
+use Rattle.yr_scan.specs.Scanned.{IsScan, module_values}
 use Rattle.yr_scan.specs.Reported.{PutsAll, SomeReport, IsReportAnswer, GivesReports}
 use Rattle.yr_scan.proofs.FitLemmas.{kinds_of_own}
 

@@ -2,16 +2,16 @@
 use Rattle.std.specs.Prelude.{◌≡◌, ℕ, List, ◌++◌, Option, None}
 use Rattle.yr_base.specs.Told.{told_more, AddsPrefix}
 use Rattle.yr_values.specs.Values.{Value}
-use Rattle.yr_code.specs.ImageReport.{IsImageReport}
+use Rattle.yr_preserves.specs.ImageReport.{IsImageReport}
 use Rattle.yr_meaning.specs.Scan.{ModuleValues}
 use Rattle.yr_outcome.specs.Answers.{hits_line, options_of}
 use Rattle.yr_outcome.specs.declared.answer.Answer.{Answer}
 use Rattle.yr_outcome.specs.declared.answer.Answer.TheVariants as answer
 use Rattle.yr_base.specs.Store.{Files}
-use Rattle.yr_code.specs.Preserves.{IsTarget}
+use Rattle.yr_preserves.specs.Preserves.{IsTarget}
 use Rattle.yr_outcome.specs.Answers.{Setting}
 use Rattle.yr_outcome.specs.Outcome.{Found, Ending, Claim, Holds, shown}
-use Rattle.yr_scanning.specs.Scanned.{module_values}
+use Rattle.yr_scan.specs.Scanned.{module_values}
 use Rattle.yr_words.specs.Commands.{Flags}
 
 -- the whole text, or a prefix of it where a put failed

@@ -1,7 +1,7 @@
 //! The externals of an image: their rows, names and own values.
 
 ghost use Rattle.std.specs.Prelude.{◌≡◌, ◌<◌, Some, length, slice_get, true};
-ghost use Rattle.yr_code.specs.Preserves.{IsGivenValue};
+ghost use Rattle.yr_preserves.specs.Preserves.{IsGivenValue};
 ghost use Rattle.yr_image.specs.Image.{in_pool, pool_text};
 ghost use Rattle.yr_image.specs.Views.{image_of, shown_bytes};
 ghost use Rattle.yr_machine.specs.ImageRun.{value_of as plain_value};
@@ -10,9 +10,9 @@ ghost use Rattle.yr_machine.specs.Rows.{is_good_external};
 ghost use Rattle.yr_machine.specs.Wellformed.{IsWellformed};
 ghost use Rattle.yr_values.specs.Values.{Text, shown};
 
+use crate::are_bytes;
 use yr_base::Value;
 use yr_image::{ImageView, NoteRow};
-use yr_scanning::are_bytes;
 
 /// Row k of the externals.
 pub fn external_at(view: &ImageView<'_>, k: u32) -> NoteRow

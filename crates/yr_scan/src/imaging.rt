@@ -3,8 +3,8 @@
 ghost use Rattle.std.specs.Prelude.{◌≡◌, ◌≤◌, ℕ, List, None, Option, Some, length, map};
 ghost use Rattle.yr_base.specs.Trace.{Entry};
 ghost use Rattle.yr_base.specs.Store.{Files};
-ghost use Rattle.yr_code.specs.Preserves.{externals_in};
-ghost use Rattle.yr_code.specs.Shape.{IsCompiled};
+ghost use Rattle.yr_preserves.specs.Preserves.{externals_in};
+ghost use Rattle.yr_preserves.specs.Shape.{IsCompiled};
 ghost use Rattle.yr_image.specs.Reading.{image_in};
 ghost use Rattle.yr_machine.specs.ImageRun.{FitExternals};
 ghost use Rattle.yr_machine.specs.Wellformed.{IsWellformed};
@@ -16,21 +16,22 @@ ghost use Rattle.yr_outcome.specs.Outcome.{Ending, Found, image_scanned, run, sc
 ghost use Rattle.yr_outcome.specs.Steps.{FitsAnswer, HasCause};
 ghost use Rattle.yr_rules.specs.Rules.{PlainRules};
 ghost use Rattle.yr_scan.specs.Reported.{GivesReports};
-ghost use Rattle.yr_scanning.specs.Scanned.{module_values};
+ghost use Rattle.yr_scan.specs.Scanned.{module_values};
 ghost use Rattle.yr_values.specs.Values.{shown};
-ghost use Rattle.yr_verifier.specs.Verified.{bytes_of};
+ghost use Rattle.yr_machine.specs.Verified.{bytes_of};
 ghost use Rattle.yr_words.specs.Commands.{ScanImage};
 ghost use Rattle.yr_words.specs.Shown.{flags_shown, given_shown};
 
+use crate::are_bytes;
 use crate::faults::refuse_image;
 use crate::misfits::{first_misfit, refuse_external};
 use crate::reporting::report;
 use crate::valuing::values;
 use std::alloc::Global;
 use yr_base::{ReadAnswer, Sink, Store, Value};
+use yr_machine::{VerifiedImage, adopt};
 use yr_outcome::{Answer, read_target};
-use yr_scanning::are_bytes;
-use yr_verifier::{VerifiedImage, adopt, verify};
+use yr_verifier::verify;
 use yr_words::{Flags, Given};
 
 /// The most bytes of an image.

@@ -2,7 +2,7 @@
 
 ghost use Rattle.std.specs.Prelude.{◌≡◌, IfOk, map, true};
 ghost use Rattle.std.specs.Option.{option_map};
-ghost use Rattle.yr_code.specs.Preserves.{external_in, externals_in};
+ghost use Rattle.yr_preserves.specs.Preserves.{external_in, externals_in};
 ghost use Rattle.yr_image.specs.Views.{image_of, shown_bytes};
 ghost use Rattle.yr_machine.specs.ImageRun.{value_of as plain_value};
 ghost use Rattle.yr_machine.specs.Rows.{is_good_external};
@@ -12,14 +12,14 @@ ghost use Rattle.yr_scan.specs.Misfits.{refusal_of, misfit_refusal, why as plain
 ghost use Rattle.yr_outcome.specs.declared.status.Status.TheVariants as status;
 ghost use Rattle.yr_outcome.specs.Steps.{IsRefusalOf};
 ghost use Rattle.yr_outcome.specs.Texts.{external_text};
-ghost use Rattle.yr_verifier.specs.Verified.{bytes_of};
+ghost use Rattle.yr_machine.specs.Verified.{bytes_of};
 ghost use Rattle.yr_words.specs.Shown.{given_shown, value_shown};
 
 use crate::externals::{external_at, name_of};
 use std::alloc::{AllocError, Global};
 use yr_image::{ImageView, NoteRow};
+use yr_machine::VerifiedImage;
 use yr_outcome::{Answer, Status, join};
-use yr_verifier::VerifiedImage;
 use yr_words::{Given, GivenValue};
 
 /// Why a word does not fit an image.

@@ -2,16 +2,16 @@
 
 ghost use Rattle.std.specs.Prelude.{◌≤◌, ◌^◌, IfOk, length};
 ghost use Rattle.yr_answer.specs.Truths.{truths_shown};
-ghost use Rattle.yr_code.specs.Preserves.{HaveKindsOf, IsTarget, externals_in};
+ghost use Rattle.yr_preserves.specs.Preserves.{HaveKindsOf, IsTarget, externals_in};
 ghost use Rattle.yr_machine.specs.Wellformed.{IsWellformed};
 ghost use Rattle.yr_outcome.specs.Answers.{own_values};
-ghost use Rattle.yr_scanning.specs.Scanned.{IsScan};
+ghost use Rattle.yr_scan.specs.Scanned.{IsScan};
 
 use crate::valuing::values;
+use crate::{Scan, are_bytes, scan_file};
 use std::alloc::Global;
 use yr_base::NoMemory;
-use yr_scanning::{Scan, are_bytes, scan_file};
-use yr_verifier::adopt;
+use yr_machine::adopt;
 
 /// What the image of wellformed bytes finds in a file of at most 268,435,456 bytes with its own values.
 pub fn scan_own(alloc: Global, bytes: &[u8], file: &[u8]) -> Result<Scan, NoMemory>

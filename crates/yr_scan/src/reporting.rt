@@ -9,19 +9,19 @@ ghost use Rattle.yr_machine.specs.Listing.{image_report};
 ghost use Rattle.yr_outcome.specs.Answers.{hits_line, options_of};
 ghost use Rattle.yr_outcome.specs.Steps.{HasCause};
 ghost use Rattle.yr_scan.specs.Reported.{IsReportAnswer, PutsAll};
-ghost use Rattle.yr_scanning.specs.Scanned.{module_values};
+ghost use Rattle.yr_scan.specs.Scanned.{module_values};
 ghost use Rattle.yr_values.specs.Values.{shown};
-ghost use Rattle.yr_verifier.specs.Verified.{bytes_of};
+ghost use Rattle.yr_machine.specs.Verified.{bytes_of};
 ghost use Rattle.yr_words.specs.Shown.{flags_shown};
 
+use crate::{Scan, scan_file};
 use itoa::Buffer;
 use std::alloc::Global;
 use yr_answer::ReportOptions;
 use yr_base::{PutAnswer, Sink, Value, put_all};
+use yr_machine::VerifiedImage;
 use yr_outcome::Answer;
 use yr_report::write_report;
-use yr_scanning::{Scan, scan_file};
-use yr_verifier::VerifiedImage;
 use yr_words::Flags;
 
 // What flags ask of a report.

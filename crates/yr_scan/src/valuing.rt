@@ -1,21 +1,21 @@
 //! The values with which an image runs: those that words give, and the image's own.
 
 ghost use Rattle.std.specs.Prelude.{◌≡◌, All, IfOk, map, true};
-ghost use Rattle.yr_code.specs.Preserves.{IsGivenValue, externals_in};
+ghost use Rattle.yr_preserves.specs.Preserves.{IsGivenValue, externals_in};
 ghost use Rattle.yr_image.specs.Views.{image_of};
 ghost use Rattle.yr_machine.specs.ImageRun.{value_of as plain_value};
 ghost use Rattle.yr_machine.specs.Names.{note_name};
 ghost use Rattle.yr_machine.specs.Rows.{is_good_external};
 ghost use Rattle.yr_outcome.specs.Externals.{given_value, values_with};
 ghost use Rattle.yr_values.specs.Values.{shown};
-ghost use Rattle.yr_verifier.specs.Verified.{bytes_of};
+ghost use Rattle.yr_machine.specs.Verified.{bytes_of};
 ghost use Rattle.yr_words.specs.Shown.{given_shown, value_shown};
 
 use crate::externals::{external_at, name_of, own_value, text_value};
 use std::alloc::Global;
 use yr_base::{NoMemory, Value};
 use yr_image::{ImageView, NoteRow};
-use yr_verifier::VerifiedImage;
+use yr_machine::VerifiedImage;
 use yr_words::{Given, GivenValue};
 
 // The value that a word spells.

@@ -17,7 +17,7 @@ use Rattle.yr_machine.specs.Hits.{AreHits, IsHit, hit_count}
 use Rattle.yr_machine.specs.ImageMatches.{IsCounted, AreImageMatches, is_greatest}
 use Rattle.yr_machine.specs.Wellformed.{IsWellformed}
 use Rattle.yr_machine.specs.Budget.{search_budget, output_cost}
-use Rattle.yr_matches.specs.Found.{Found, IsReadable, items_of}
+use Rattle.yr_answer.specs.Found.{Found, IsReadable, items_of}
 use Rattle.yr_hits.specs.Gathering.{IsSettled}
 use Rattle.yr_search.specs.Uppers.{own, upper, costs}
 use Rattle.yr_search.specs.Walked.{AreFronts, front_cost, total, repeated, root_fronts}

@@ -14,7 +14,7 @@ use Rattle.yr_image.specs.Reading.{image_in, split_row}
 use Rattle.yr_image.specs.Sections.{rows_of, bytes_of}
 use Rattle.yr_image.specs.Views.{shown_bytes, image_of}
 use Rattle.yr_machine.specs.Wellformed.{IsWellformed}
-use Rattle.yr_verifier.proofs.CallerLemmas.{has_sections}
+use Rattle.yr_machine.proofs.CallerLemmas.{has_sections}
 use Rattle.yr_search.specs.State.{State}
 use Rattle.yr_search.specs.declared.scene.Scene.{Scene}
 use Rattle.yr_search.specs.Taking.{IsGoodScene, TakesAll, TakesFronts}

@@ -10,11 +10,11 @@ use Rattle.yr_image.specs.declared.rows.StringRow.{StringRow}
 use Rattle.yr_image.specs.Image.{Image}
 use Rattle.yr_image.specs.Views.{image_of}
 use Rattle.yr_machine.specs.ImageMatches.{is_greatest}
-use Rattle.yr_matches.specs.Found.{items_of}
+use Rattle.yr_answer.specs.Found.{items_of}
 use Rattle.yr_hits.specs.declared.hit.Hit.{Hit}
 use Rattle.yr_hits.specs.Gathering.{Grows}
 use Rattle.yr_hits.specs.Spans.{IsSpan, IsSpanOf, IsSpanOfSome, IsGoodHit, HasAtomWithin}
-use Rattle.yr_sweep.specs.Sweeps.{Sweeps}
+use Rattle.yr_hits.specs.Sweeps.{Sweeps}
 use Rattle.yr_search.specs.declared.gathered.Gathered.{Gathered}
 use Rattle.yr_search.specs.State.{State, state_of, hits_in, AreInFile, IsFor, owed_by, cost_later, owed}
 use Rattle.yr_search.specs.Taking.{Adds, Leaves, Takes, TakesAll, TakesFronts, TakesLater}

@@ -6,7 +6,7 @@ use Rattle.yr_image.specs.declared.rows.StringRow.{StringRow}
 use Rattle.yr_image.specs.Image.{Image}
 use Rattle.yr_machine.specs.Hits.{AreHits, hit_count}
 use Rattle.yr_machine.specs.ImageMatches.{AreImageMatches, is_greatest}
-use Rattle.yr_matches.specs.Found.{Found}
+use Rattle.yr_answer.specs.Found.{Found}
 use Rattle.yr_hits.specs.Gathering.{IsSettled, AreShort}
 use Rattle.yr_search.specs.State.{State}
 use Rattle.yr_search.specs.Taking.{TakesFronts}

@@ -4,8 +4,8 @@ use Rattle.std.specs.declared.alloc.Global.{Global}
 use Rattle.yr_answer.specs.MatchList.{Match}
 use Rattle.yr_image.specs.Image.{Image}
 use Rattle.yr_machine.specs.Budget.{output_cost}
-use Rattle.yr_matches.specs.Found.{items_of}
-use Rattle.yr_sweep.specs.Sweeps.{AreHitsOf}
+use Rattle.yr_answer.specs.Found.{items_of}
+use Rattle.yr_hits.specs.Sweeps.{AreHitsOf}
 use Rattle.yr_search.specs.declared.gathered.Gathered.{Gathered}
 
 -- the match list of each string, and for each split the hits that are left for later

@@ -2,7 +2,7 @@
 
 ghost use Rattle.std.specs.Prelude.{◌≡◌, ◌+◌, ◌*◌, ◌≤◌, [], All, length, IfOk, OnOk};
 ghost use Rattle.yr_image.specs.Views.{image_of};
-ghost use Rattle.yr_matches.specs.Found.{items_of};
+ghost use Rattle.yr_answer.specs.Found.{items_of};
 ghost use Rattle.yr_hits.specs.Programs.{HasRoom};
 ghost use Rattle.yr_search.specs.State.{state_of, hits_in, IsFor, IsEmpty, owed};
 ghost use Rattle.yr_search.specs.Taking.{IsGoodScene, TakesLater};

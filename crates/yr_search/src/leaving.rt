@@ -2,9 +2,9 @@
 
 ghost use Rattle.std.specs.Prelude.{◌≡◌, ◌+◌, ◌*◌, ◌<◌, ◌≤◌, length, OnOk};
 ghost use Rattle.yr_image.specs.Views.{image_of};
-ghost use Rattle.yr_matches.specs.Found.{items_of};
+ghost use Rattle.yr_answer.specs.Found.{items_of};
 ghost use Rattle.yr_hits.specs.Programs.{HasRoom};
-ghost use Rattle.yr_sweep.specs.Sweeps.{AreHitsOf};
+ghost use Rattle.yr_hits.specs.Sweeps.{AreHitsOf};
 ghost use Rattle.yr_search.specs.State.{cost_later};
 ghost use Rattle.yr_search.specs.Taking.{IsGoodScene, Adds};
 
@@ -12,8 +12,8 @@ use crate::scene::Scene;
 use std::alloc::Global;
 use std::sync::ledger::Ledger;
 use yr_base::{NoMemory, Steps};
+use yr_hits::sweep;
 use yr_moves::Marks;
-use yr_sweep::sweep;
 
 /// The matches that these hits of a split give are added to the list of its string.
 pub(crate) fn take_left<L: Ledger>(

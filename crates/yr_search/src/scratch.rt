@@ -1,7 +1,7 @@
 //! What a search keeps from file to file.
 
 ghost use Rattle.std.specs.Prelude.{IfOk};
-ghost use Rattle.yr_verifier.specs.Verified.{bytes_of};
+ghost use Rattle.yr_machine.specs.Verified.{bytes_of};
 
 use crate::scene::scene_of;
 use crate::skipping::skips_of;
@@ -9,8 +9,8 @@ use crate::skips::Skips;
 use std::alloc::Global;
 use yr_base::NoMemory;
 use yr_hits::most_moves;
+use yr_machine::VerifiedImage;
 use yr_moves::Marks;
-use yr_verifier::VerifiedImage;
 
 /// What the search and the machine of an image work with. It is made once, and serves any number of files.
 #[derive(Drop)]

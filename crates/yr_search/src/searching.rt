@@ -3,7 +3,7 @@
 ghost use Rattle.std.specs.Prelude.{◌≡◌, ◌+◌, ◌^◌, ◌≤◌, length, IfOk};
 ghost use Rattle.yr_image.specs.Reading.{image_in};
 ghost use Rattle.yr_machine.specs.Budget.{search_budget};
-ghost use Rattle.yr_verifier.specs.Verified.{bytes_of};
+ghost use Rattle.yr_machine.specs.Verified.{bytes_of};
 ghost use Rattle.yr_search.specs.FoundIn.{IsFoundIn};
 ghost use Rattle.yr_search.specs.Scratches.{IsScratchFor};
 
@@ -12,9 +12,9 @@ use crate::scene::scene_of;
 use crate::scratch::Scratch;
 use std::alloc::Global;
 use std::sync::ledger::Ledger;
+use yr_answer::Matches;
 use yr_base::{NoMemory, Steps};
-use yr_matches::Matches;
-use yr_verifier::VerifiedImage;
+use yr_machine::VerifiedImage;
 
 /// The match lists of the image's strings in the file, and the number of its hits.
 pub fn search<L: Ledger>(

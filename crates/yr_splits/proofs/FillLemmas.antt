@@ -22,8 +22,8 @@ use Rattle.yr_image.specs.declared.rows.StringRow.{StringRow}
 use Rattle.yr_image.specs.Image.{Image, pool_text}
 use Rattle.yr_image.specs.Encoding.{encoded_length}
 use Rattle.yr_machine.specs.ImageMatches.{border_of}
-use Rattle.yr_tables.specs.Growing.{Grows}
-use Rattle.yr_tables.specs.Added.{HasText}
+use Rattle.yr_draft.specs.Growing.{Grows}
+use Rattle.yr_draft.specs.Added.{HasText}
 use Rattle.yr_splits.specs.Placed.{Placed, place, place_all}
 use Rattle.yr_splits.specs.SplitRows.{flag, IsSplitRow, AreSplitRows}
 use Rattle.yr_splits.specs.Standing.{atoms_of}

@@ -12,9 +12,9 @@ use Rattle.yr_image.specs.declared.rows.ProgramRow.{ProgramRow}
 use Rattle.yr_image.specs.Sections.{header_length, rule_width}
 use Rattle.yr_image.specs.Image.{Image}
 use Rattle.yr_image.specs.Encoding.{encoded_length}
-use Rattle.yr_tables.specs.Growing.{Grows, move_behind, moves_behind}
-use Rattle.yr_tables.specs.Added.{HasText, row_behind, with_program}
-use Rattle.yr_tables.specs.Programs.{AcceptSpans}
+use Rattle.yr_draft.specs.Growing.{Grows, move_behind, moves_behind}
+use Rattle.yr_draft.specs.Added.{HasText, row_behind, with_program}
+use Rattle.yr_draft.specs.Programs.{AcceptSpans}
 use Rattle.yr_splits.specs.Filling.{PutsSide}
 use Rattle.yr_splits.proofs.GrowLemmas.{grows_same, program_added, begins_same}
 use Rattle.yr_splits.proofs.ProgramLemmas.{programs_stay, programs_more}

@@ -19,7 +19,7 @@ use Rattle.yr_image.specs.Image.{Image, in_pool}
 use Rattle.yr_machine.specs.Rows.{is_good_split, row_passes}
 use Rattle.yr_machine.specs.Names.{is_string_name, string_name}
 use Rattle.yr_image.specs.Encoding.{encoded_length}
-use Rattle.yr_tables.specs.Growing.{Grows}
+use Rattle.yr_draft.specs.Growing.{Grows}
 use Rattle.yr_splits.specs.Placed.{Placed, IsBelow}
 use Rattle.yr_splits.specs.SplitRows.{flag}
 use Rattle.yr_splits.specs.Standing.{atoms_of, StandsFor}

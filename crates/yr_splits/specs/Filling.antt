@@ -11,7 +11,7 @@ use Rattle.yr_image.specs.Encoding.{encoded_length}
 use Rattle.yr_splits.specs.Placed.{Placed, StandForStrings, StandForPart}
 use Rattle.yr_splits.specs.SplitRows.{flag, IsSide, AreSplitRows}
 use Rattle.yr_splits.specs.Standing.{atoms_of}
-use Rattle.yr_tables.specs.Growing.{Grows}
+use Rattle.yr_draft.specs.Growing.{Grows}
 use Rattle.yr_splits.specs.Programs.{AreProgramRows}
 use Rattle.yr_splits.specs.Lengths.{HaveLongAtoms, HaveLongAtomsSoFar}
 use Rattle.yr_automaton.specs.Automaton.{Rows, IsAutomatonOf}

@@ -7,7 +7,7 @@ ghost use Rattle.yr_splits.specs.Filling.{PutsAutomaton};
 use std::alloc::Global;
 use yr_automaton::build;
 use yr_base::{Atom, NoMemory};
-use yr_tables::ImageDraft;
+use yr_draft::ImageDraft;
 
 /// Puts the automaton of atoms, of which each has the number of its split.
 pub fn put_automaton(alloc: Global, draft: &mut ImageDraft, atoms: &[Atom]) -> Result<(), NoMemory>

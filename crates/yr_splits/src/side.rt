@@ -10,9 +10,9 @@ ghost use Rattle.yr_splits.specs.Filling.{PutsSide};
 use std::alloc::Global;
 use yr_atoms::Piece;
 use yr_base::NoMemory;
+use yr_draft::ImageDraft;
 use yr_pattern::Pattern;
 use yr_program::assemble;
-use yr_tables::ImageDraft;
 
 /// The fields of a side, as the row of a split has them.
 #[derive(Clone, Copy)]

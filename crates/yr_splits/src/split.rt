@@ -12,8 +12,8 @@ use crate::side::put_side;
 use std::alloc::Global;
 use yr_atoms::Split;
 use yr_base::{Atom, Border, NoMemory};
+use yr_draft::ImageDraft;
 use yr_image::SplitRow;
-use yr_tables::ImageDraft;
 
 /// The number of a border.
 fn border_number(border: Border) -> u8

@@ -13,9 +13,9 @@ use crate::split::{one_if, put_splits};
 use std::alloc::Global;
 use yr_atoms::cover;
 use yr_base::{Atom, NoMemory};
+use yr_draft::ImageDraft;
 use yr_image::StringRow;
 use yr_rules::{CheckedString, Variant};
-use yr_tables::ImageDraft;
 
 /// Puts the splits of one more variant of the string with this number.
 fn put_variant(

@@ -8,8 +8,8 @@ use crate::automaton::put_automaton;
 use crate::string::put_rows;
 use std::alloc::Global;
 use yr_base::NoMemory;
+use yr_draft::ImageDraft;
 use yr_rules::CheckedRules;
-use yr_tables::ImageDraft;
 
 /// Puts the strings of rules into an image that has none, with the automaton of their atoms. After a refusal nothing is said of the image.
 pub fn put_strings(

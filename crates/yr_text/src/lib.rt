@@ -11,8 +11,6 @@ mod keys;
 pub mod laws;
 mod modifiers;
 mod name;
-#[cfg(test)]
-mod tests;
 mod variants_of_text;
 
 pub use checking::check_modifiers;

@@ -3,7 +3,7 @@
 ghost use Rattle.std.specs.Prelude.{◌≡◌};
 ghost use Rattle.std.specs.Str.{bytes_eq};
 ghost use Rattle.yr_values.specs.Values.{shown, holds};
-ghost use Rattle.yr_values.specs.Operators.{on_texts, contrary_of, definedness_of, conjunction_of, disjunction_of};
+ghost use Rattle.yr_values.specs.Operators.{on_texts, contrary_of, definedness_of};
 ghost use Rattle.yr_values.specs.Comparisons.{precedes, less_of, greater_of, at_most_of, at_least_of, equal_of, unequal_of};
 
 use crate::operand::{numbers, text};
@@ -40,20 +40,6 @@ pub fn definedness(v: &Value<'_>) -> Value<'static>
         Value::Undefined => Value::Flag(false),
         _ => Value::Flag(true),
     }
-}
-
-/// `v and w`.
-pub fn conjunction(v: &Value<'_>, w: &Value<'_>) -> Value<'static>
-    ensures { shown result ≡ conjunction_of (shown v.now) (shown w.now) }
-{
-    Value::Flag(holds(v) && holds(w))
-}
-
-/// `v or w`.
-pub fn disjunction(v: &Value<'_>, w: &Value<'_>) -> Value<'static>
-    ensures { shown result ≡ disjunction_of (shown v.now) (shown w.now) }
-{
-    Value::Flag(holds(v) || holds(w))
 }
 
 /// `v < w`.

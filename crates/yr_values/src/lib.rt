@@ -10,13 +10,10 @@ mod number;
 mod operand;
 mod quantifier;
 mod reader;
-#[cfg(test)]
-mod tests;
 mod text;
 
 pub use comparison::{
-    at_least, at_most, conjunction, contrary, definedness, disjunction, equal, greater, holds,
-    less, unequal,
+    at_least, at_most, contrary, definedness, equal, greater, holds, less, unequal,
 };
 pub use modules::Modules;
 pub use names::{Module, ModuleEntry, ModuleNames, ModuleRow};

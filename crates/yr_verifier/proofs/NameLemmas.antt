@@ -9,10 +9,10 @@ use Rattle.yr_image.specs.Sections.{HasSections, rows_of}
 use Rattle.yr_image.specs.Reading.{image_in}
 use Rattle.yr_machine.specs.Rows.{row_passes}
 use Rattle.yr_machine.specs.Names.{At, is_name, is_string_name, rule_name, note_name, string_name, NamePasses}
-use Rattle.yr_codewalk.proofs.CountLemmas.{rules_counted, notes_counted, externals_counted, strings_counted}
+use Rattle.yr_verifier.proofs.CountLemmas.{rules_counted, notes_counted, externals_counted, strings_counted}
 use Rattle.yr_verifier.specs.Firsts.{Finds}
-use Rattle.yr_repeats.specs.Names.{IsNew, FindsRepeat}
-use Rattle.yr_repeats.proofs.NewLemmas.{new_beyond}
+use Rattle.yr_verifier.specs.Names.{IsNew, FindsRepeat}
+use Rattle.yr_verifier.proofs.NewLemmas.{new_beyond}
 use Rattle.yr_verifier.specs.Named.{is_named}
 use Rattle.yr_verifier.proofs.RowLemmas.{either, row_missing}
 

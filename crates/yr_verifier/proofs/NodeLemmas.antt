@@ -7,7 +7,7 @@ use Rattle.yr_rows.specs.declared.nodes.EdgeRow.{EdgeRow}
 use Rattle.yr_rows.specs.Nodes.{BytesRise, edges_at}
 use Rattle.yr_image.specs.Image.{Image}
 use Rattle.yr_machine.specs.Automaton.{IsNode, NodePasses}
-use Rattle.yr_codewalk.proofs.RangeLemmas.{range_place, range_length}
+use Rattle.yr_verifier.proofs.RangeLemmas.{range_place, range_length}
 use Rattle.yr_verifier.specs.Nodes.{HasRanges, HasDepth, AllLeadDeeper, HaveAtoms}
 
 module _ (image : Image) where

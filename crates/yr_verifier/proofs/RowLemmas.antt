@@ -8,7 +8,7 @@ use Rattle.yr_image.specs.Image.{Image}
 use Rattle.yr_image.specs.Sections.{HasSections, rows_of}
 use Rattle.yr_image.specs.Reading.{image_in, zeros_in}
 use Rattle.yr_machine.specs.Rows.{row_passes, is_good_rule, is_good_note, is_good_external, is_good_string, is_good_split, is_good_edge, is_good_output, is_good_without_rules, index_passes}
-use Rattle.yr_codewalk.proofs.CountLemmas.{rules_counted, notes_counted, externals_counted, strings_counted, splits_counted, edges_counted, outputs_counted}
+use Rattle.yr_verifier.proofs.CountLemmas.{rules_counted, notes_counted, externals_counted, strings_counted, splits_counted, edges_counted, outputs_counted}
 
 pub either : (b x y : Bool) → (b ≡ true → x ≡ true) → (b ≡ false → y ≡ true) → cond b x y ≡ true
 either true x y p q = p refl

@@ -1,4 +1,12 @@
-pub mod Verified
 pub mod Firsts
 pub mod Named
 pub mod Nodes
+pub mod Stacks
+pub mod Effects
+pub mod Rows
+pub mod Steps
+pub mod Blocks
+pub mod Names
+pub mod Hashes
+pub mod Tables
+pub mod Windows

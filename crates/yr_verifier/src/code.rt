@@ -3,11 +3,11 @@
 ghost use Rattle.std.specs.Prelude.{◌<◌, length};
 ghost use Rattle.yr_image.specs.Views.{image_of, shown_bytes};
 ghost use Rattle.yr_machine.specs.Wellformed.{CodePasses};
-ghost use Rattle.yr_codewalk.specs.Blocks.{AreMost};
+ghost use Rattle.yr_verifier.specs.Blocks.{AreMost};
 ghost use Rattle.yr_verifier.specs.Firsts.{Finds, Reaches, Checked};
 
-use yr_codewalk::counting::count_rules;
-use yr_codewalk::{Code, Lists, Walk, code_fault};
+use crate::counting::count_rules;
+use crate::{Code, Lists, Walk, code_fault};
 use yr_image::{ImageFault, ImageView};
 
 // The first place of a rule's code that is not wellformed.

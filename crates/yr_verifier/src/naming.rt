@@ -11,11 +11,11 @@ ghost use Rattle.yr_machine.specs.Names.{is_name, is_string_name, rule_name, not
 ghost use Rattle.yr_verifier.specs.Firsts.{Finds, Reaches, Checked};
 ghost use Rattle.yr_verifier.specs.Named.{is_named};
 
+use crate::counting::{count_externals, count_notes, count_rules, count_strings};
 use crate::reading::namespace;
+use crate::{repeated, text};
 use yr_base::is_word_byte;
-use yr_codewalk::counting::{count_externals, count_notes, count_rules, count_strings};
 use yr_image::{ImageFault, ImageView, RuleRow};
-use yr_repeats::{repeated, text};
 
 fn is_word_start(b: u8) -> bool
     ensures { result ≡ is_word_start b }

@@ -7,9 +7,9 @@ ghost use Rattle.yr_machine.specs.Automaton.{HasAtomOf, IsNode, NodePasses};
 ghost use Rattle.yr_verifier.specs.Firsts.{Reaches, Checked};
 ghost use Rattle.yr_verifier.specs.Nodes.{HasRanges, HasDepth, LeadsDeeper, AllLeadDeeper, HaveAtoms};
 
+use crate::counting::{count_edges, count_nodes, count_outputs, count_splits};
 use crate::reading::{edge, node, output};
 use crate::rows::end_of;
-use yr_codewalk::counting::{count_edges, count_nodes, count_outputs, count_splits};
 use yr_image::{EdgeRow, ImageFault, ImageView, NodeRow};
 
 // Where the edges and the outputs of the node before node n end.

@@ -7,8 +7,8 @@ ghost use Rattle.yr_machine.specs.Rows.{end_before};
 ghost use Rattle.yr_machine.specs.Automaton.{moves_end, IsProgram, ProgramPasses};
 ghost use Rattle.yr_verifier.specs.Firsts.{Reaches, Checked};
 
+use crate::counting::count_programs;
 use crate::rows::end_of;
-use yr_codewalk::counting::count_programs;
 use yr_image::{ImageFault, ImageView, ProgramRow};
 use yr_rows::{are_wellformed_moves, count_moves};
 

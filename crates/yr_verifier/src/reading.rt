@@ -5,8 +5,8 @@ ghost use Rattle.yr_image.specs.Image.{namespace_of};
 ghost use Rattle.yr_image.specs.Views.{image_of, shown_bytes};
 ghost use Rattle.yr_image.specs.Reading.{zeros_in, split_zeros};
 
+use crate::text;
 use yr_image::{EdgeRow, ImageView, NodeRow, RuleRow};
-use yr_repeats::text;
 use yr_rows::{edge_at, node_at, number_at, output_at};
 
 /// Node n.

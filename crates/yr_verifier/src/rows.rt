@@ -8,12 +8,12 @@ ghost use Rattle.yr_image.specs.Reading.{zeros_in};
 ghost use Rattle.yr_machine.specs.Rows.{end_before, notes_end, strings_end, code_end, ends_sections, is_good_rule, is_good_without_rules, is_good_value, is_good_note, is_good_external, lies_in, is_good_string, is_good_side, is_good_split, is_good_edge, is_good_output, row_passes, index_passes};
 ghost use Rattle.yr_verifier.specs.Firsts.{Finds, Reaches, Checked};
 
-use crate::reading::{edge, output, unused_of};
-use yr_codewalk::counting::{
+use crate::counting::{
     count_code, count_edges, count_externals, count_nodes, count_notes, count_outputs,
     count_programs, count_rules, count_splits, count_strings,
 };
-use yr_codewalk::in_pool;
+use crate::in_pool;
+use crate::reading::{edge, output, unused_of};
 use yr_image::{EdgeRow, ImageFault, ImageView, NoteRow, RuleRow, SplitRow, StringRow};
 
 /// Where a range ends.

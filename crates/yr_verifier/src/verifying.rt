@@ -2,19 +2,18 @@
 
 ghost use Rattle.std.specs.Prelude.{◌≡◌, ◌↔◌, IfOk, IfErr, IsOk};
 ghost use Rattle.yr_machine.specs.Wellformed.{IsFirstFault, IsWellformed};
-ghost use Rattle.yr_verifier.specs.Verified.{bytes_of};
+ghost use Rattle.yr_machine.specs.Verified.{bytes_of};
 ghost use Rattle.yr_verifier.specs.Firsts.{Checked};
 
-use crate::adopting::adopt;
 use crate::code::check_code;
 use crate::header::check_header;
-use crate::image::VerifiedImage;
 use crate::naming::check_names;
 use crate::nodes::check_nodes;
 use crate::programs::check_programs;
 use crate::rows::check_rows;
 use crate::sections::check_sections;
 use yr_image::{ImageFault, ImageView};
+use yr_machine::{VerifiedImage, adopt};
 
 fn check(bytes: &[u8]) -> Result<(), ImageFault>
     ensures { Checked bytes.now 11 result }

@@ -14,7 +14,7 @@ use Rattle.yr_image.specs.Reading.{image_in, rule_row, code_row}
 use Rattle.yr_image.specs.Sections.{rule_width, version_in, size_of, place_of, bytes_of}
 use Rattle.yr_machine.specs.CodeWalk.{code_fault, IsWellformedCode}
 use Rattle.yr_machine.specs.Wellformed.{IsWellformed}
-use Rattle.yr_verifier.proofs.CallerLemmas.{has_sections}
+use Rattle.yr_machine.proofs.CallerLemmas.{has_sections}
 
 take-less : (n : ℕ) (xs : List ℕ) → length (take n xs) ≤ length xs
 take-less zero [] = omega arith

@@ -6,8 +6,8 @@ ghost use Rattle.yr_values.specs.Values.{shown};
 ghost use Rattle.yr_answer.specs.Lookups.{list_at, at_offset, in_range};
 ghost use Rattle.yr_vm.specs.Strings.{asked_shown};
 
+use yr_answer::Matches;
 use yr_base::Value;
-use yr_matches::Matches;
 
 /// All matches, the one at an offset, or those in a range, both ends included.
 #[derive(Clone, Copy, Debug, PartialEq, Eq)]

@@ -9,8 +9,7 @@ ghost use Rattle.yr_machine.specs.ImageRun.{KnowsPrograms, FitExternals, FitModu
 ghost use Rattle.yr_machine.specs.Operations.{Context};
 ghost use Rattle.yr_machine.specs.Wellformed.{IsWellformed};
 ghost use Rattle.yr_hits.specs.Programs.{HasRoom};
-ghost use Rattle.yr_search.specs.Scratches.{IsScratchFor};
-ghost use Rattle.yr_verifier.specs.Verified.{bytes_of};
+ghost use Rattle.yr_machine.specs.Verified.{bytes_of};
 ghost use Rattle.yr_vm.specs.Evaluation.{IsEvaluation, IsContextOf};
 ghost use Rattle.yr_vm.specs.Worlds.{context_of};
 
@@ -18,13 +17,12 @@ use crate::running::run_code;
 use crate::state::State;
 use crate::world::World;
 use std::sync::ledger::Ledger;
+use yr_answer::Matches;
 use yr_base::{Steps, Truth, Value};
+use yr_machine::VerifiedImage;
 use yr_machine::laws::some_programs_are_known;
-use yr_matches::Matches;
 use yr_moves::Marks;
-use yr_search::Scratch;
 use yr_values::Modules;
-use yr_verifier::VerifiedImage;
 
 // The truth as results keep it.
 #[inline]
@@ -69,17 +67,17 @@ pub fn evaluate<'a, M: Modules, L: Ledger>(
     externals: &[Value<'a>],
     modules: &'a M,
     results: &mut [Truth],
-    scratch: &mut Scratch,
+    marks: &mut Marks,
     steps: &mut Steps<L>,
 )
     requires matches { length matches.now.lists ≡ length (image_in (bytes_of image.now)).strings }
     requires externals { FitExternals (image_in (bytes_of image.now)) (map shown externals.now) }
     requires modules { FitModules file.now (M.field_of modules.now) (M.call_of modules.now) }
     requires results { length results.old ≡ length (image_in (bytes_of image.now)).rules }
-    requires scratch { IsScratchFor (bytes_of image.now) scratch.old }
+    requires room { HasRoom (image_in (bytes_of image.now)) marks.old.room }
     ensures evaluation { (context : Context) → IsContextOf (image_in (bytes_of image.now)) file.now matches.now.lists (map shown externals.now)
         (M.field_of modules.now) (M.call_of modules.now) context → IsEvaluation context (truths_shown results.new) steps.old steps.new }
-    ensures scratch { IsScratchFor (bytes_of image.now) scratch.new }
+    ensures room { marks.new.room ≡ marks.old.room }
 {
     some_programs_are_known();
     let world = World {
@@ -89,5 +87,5 @@ pub fn evaluate<'a, M: Modules, L: Ledger>(
         externals,
         modules,
     };
-    run_rules(&world, results, &mut scratch.marks, steps);
+    run_rules(&world, results, marks, steps);
 }

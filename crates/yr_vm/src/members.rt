@@ -11,8 +11,8 @@ ghost use Rattle.yr_vm.specs.Strings.{asked_shown};
 ghost use Rattle.yr_vm.specs.Earlier.{truth_in};
 
 use crate::asked::{Asked, has_asked};
+use yr_answer::Matches;
 use yr_base::Truth;
-use yr_matches::Matches;
 use yr_rows::output_at;
 
 // Member k of a set whose list rows are there.

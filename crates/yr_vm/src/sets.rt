@@ -17,9 +17,9 @@ use crate::asked::{Asked, asked_at, asked_within};
 use crate::members::{rules_found, strings_found};
 use crate::quantity::{quantifier, quantity};
 use crate::stack::Stack;
+use yr_answer::Matches;
 use yr_base::{Truth, Value};
 use yr_image::{OfForm, QuantifierKind};
-use yr_matches::Matches;
 use yr_values::Quantifier;
 
 // Whether enough strings of a set have a match that is asked for.

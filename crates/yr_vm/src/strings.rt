@@ -13,9 +13,9 @@ use crate::asked::{Asked, asked_at, asked_within, has_asked};
 use crate::loops::Loops;
 use crate::stack::Stack;
 use crate::turns::Present;
+use yr_answer::Matches;
 use yr_base::Value;
 use yr_image::NamedString;
-use yr_matches::Matches;
 
 /// The number of a string that an instruction names.
 #[inline]

@@ -1,8 +1,8 @@
 //! What code looks at.
 
+use yr_answer::Matches;
 use yr_base::Value;
 use yr_image::ImageView;
-use yr_matches::Matches;
 use yr_values::Modules;
 
 /// What the code of an image looks at: the image, the matches of its strings, the file, the values of its external

@@ -3,7 +3,7 @@ use Rattle.std.proofs.lemmas.List.{length-map}
 use Rattle.yr_rules.specs.Rules.{PlainExternal, PlainRules, Stored, rule_of, string_of, external_of, rules_of}
 use Rattle.yr_rules.specs.Weight.{total, string_weight}
 use Rattle.yr_rules.specs.Wellformed.{IsWellformed}
-use Rattle.yr_compiling.specs.Built.{HaveIds}
+use Rattle.yr_preserves.specs.RuleIds.{HaveIds}
 use Rattle.speed_compile.proofs.MadeLemmas.{are_wellformed, ids_there}
 use Rattle.speed_compile.proofs.making.finish.Goals as goal
 

@@ -1,6 +1,6 @@
 use Rattle.std.proofs.Common.{◌+◌, List, sym, subst, arith}
 use Rattle.yr_answer.specs.MatchList.{Match}
-use Rattle.yr_matches.specs.Found.{IsReadable}
+use Rattle.yr_answer.specs.Found.{IsReadable}
 use Rattle.yr_report.specs.Made.{AreBelow}
 use Rattle.yr_report.proofs.CallerLemmas.{readable-more}
 use Rattle.speed_report.proofs.readable.push_rising.Goals as goal

@@ -1,4 +1,4 @@
-use Rattle.yr_matches.specs.Found.{IsReadable}
+use Rattle.yr_answer.specs.Found.{IsReadable}
 use Rattle.yr_report.specs.Made.{AreBelow}
 use Rattle.speed_report.proofs.readable.readable.Given as goal
 

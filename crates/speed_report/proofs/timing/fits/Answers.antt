@@ -1,8 +1,8 @@
 use Rattle.std.proofs.Common.{◌≡◌, length, sym, ap, ◌∙◌}
 use Rattle.yr_image.specs.Reading.{image_in}
 use Rattle.yr_image.specs.Sections.{rows_of}
-use Rattle.yr_verifier.specs.Verified.{bytes_of, are_wellformed}
-use Rattle.yr_verifier.proofs.CallerLemmas.{has_sections}
+use Rattle.yr_machine.specs.Verified.{bytes_of, are_wellformed}
+use Rattle.yr_machine.proofs.CallerLemmas.{has_sections}
 use Rattle.yr_report.proofs.CallerLemmas.{rule_count, string_count}
 use Rattle.speed_report.proofs.timing.fits.Goals as goal
 

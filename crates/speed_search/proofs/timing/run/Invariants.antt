@@ -1,4 +1,4 @@
-use Rattle.yr_verifier.specs.Verified.{bytes_of}
+use Rattle.yr_machine.specs.Verified.{bytes_of}
 use Rattle.yr_search.specs.Scratches.{IsScratchFor}
 use Rattle.speed_search.proofs.timing.run.Given as goal
 

@@ -1,4 +1,4 @@
-use Rattle.yr_ends.specs.EndWalks.{IsMidway}
+use Rattle.yr_walks.specs.EndWalks.{IsMidway}
 use Rattle.speed_spans.proofs.timing.walk_down.Given as goal
 
 abbrev pub invariant-loop-walk : goal.invariant-loop-walk

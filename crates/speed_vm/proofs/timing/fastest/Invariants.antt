@@ -1,5 +1,6 @@
-use Rattle.yr_verifier.specs.Verified.{bytes_of}
-use Rattle.yr_search.specs.Scratches.{IsScratchFor}
+use Rattle.yr_machine.specs.Verified.{bytes_of}
+use Rattle.yr_hits.specs.Programs.{HasRoom}
+use Rattle.yr_image.specs.Reading.{image_in}
 use Rattle.speed_vm.proofs.timing.fastest.Given as goal
 
 abbrev pub ghosts-matches_of : goal.ghosts-matches_of
@@ -9,4 +10,4 @@ abbrev pub ghosts-run : goal.ghosts-run
 ghosts-run a = record { name = a.blank.name; parts = a.blank.parts }
 
 abbrev pub invariant-loop : goal.invariant-loop
-invariant-loop l = IsScratchFor (bytes_of l.image) l.scratch
+invariant-loop l = HasRoom (image_in (bytes_of l.image)) l.scratch.marks.room

@@ -2,7 +2,7 @@ use Rattle.std.proofs.Common.{[], sym, ◌∙◌, subst}
 use Rattle.yr_image.specs.Reading.{image_in}
 use Rattle.yr_image.specs.Views.{shown_bytes}
 use Rattle.yr_machine.specs.ImageRun.{FitExternals}
-use Rattle.yr_verifier.proofs.CallerLemmas.{has_sections}
+use Rattle.yr_machine.proofs.CallerLemmas.{has_sections}
 use Rattle.speed_vm.proofs.ImageLemmas.{no_externals, zero_from}
 use Rattle.speed_vm.proofs.timing.has_no_externals.Goals as goal
 

@@ -1,7 +1,7 @@
 use Rattle.std.proofs.Common.{◌≡◌, List, ℕ, length, subst, arith}
 use Rattle.yr_image.specs.Reading.{image_in}
 use Rattle.yr_image.specs.Views.{shown_bytes}
-use Rattle.yr_verifier.proofs.CallerLemmas.{has_sections}
+use Rattle.yr_machine.proofs.CallerLemmas.{has_sections}
 use Rattle.speed_vm.proofs.ImageLemmas.{rule_rows}
 use Rattle.speed_vm.proofs.timing.no_truths.Goals as goal
 

@@ -1,8 +1,8 @@
 use Rattle.yr_image.specs.Image.{shown}
-use Rattle.yr_code.specs.Shape.{IsCompiled}
-use Rattle.yr_compiling.specs.Finds.{FindsSame}
+use Rattle.yr_preserves.specs.Shape.{IsCompiled}
+use Rattle.yr_compiler.specs.Finds.{FindsSame}
 use Rattle.yr_rules.specs.Rules.{rules_of}
-use Rattle.yr_scanning.specs.Scanned.{module_values}
+use Rattle.yr_scan.specs.Scanned.{module_values}
 use Rattle.yr_commands.proofs.StepLemmas.{image-ok}
 use Rattle.yr_commands.proofs.compiling.image_of.Goals as goal
 

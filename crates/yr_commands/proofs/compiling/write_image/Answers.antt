@@ -1,7 +1,7 @@
 use Rattle.std.proofs.Common.{[], refl, sym, subst}
-use Rattle.yr_code.specs.Shape.{IsCompiled}
+use Rattle.yr_preserves.specs.Shape.{IsCompiled}
 use Rattle.yr_rules.specs.Rules.{rules_of}
-use Rattle.yr_scanning.specs.Scanned.{module_values}
+use Rattle.yr_scan.specs.Scanned.{module_values}
 use Rattle.yr_outcome.specs.Outcome.{Found, CompiledTo, written}
 use Rattle.yr_commands.specs.Program.{all_setting}
 use Rattle.yr_commands.proofs.compiling.write_image.Goals as goal

@@ -2,11 +2,11 @@ use Rattle.std.proofs.Common.{◌≡◌, ◌++◌, List, length, map, sym, ap, s
 use Rattle.std.specs.List.{count_by}
 use Rattle.std.proofs.lemmas.List.{length-map}
 use Rattle.yr_answer.specs.Truths.{truths_shown}
-use Rattle.yr_code.specs.Preserves.{externals_in, HaveKindsOf}
-use Rattle.yr_code.specs.Shape.{IsCompiled}
-use Rattle.yr_compiling.specs.Finds.{FindsSame}
+use Rattle.yr_preserves.specs.Preserves.{externals_in, HaveKindsOf}
+use Rattle.yr_preserves.specs.Shape.{IsCompiled}
+use Rattle.yr_compiler.specs.Finds.{FindsSame}
 use Rattle.yr_rules.specs.Rules.{rules_of, rule_of, string_of}
-use Rattle.yr_scanning.specs.Scanned.{module_values}
+use Rattle.yr_scan.specs.Scanned.{module_values}
 use Rattle.yr_outcome.specs.Fits.{seen}
 use Rattle.yr_outcome.specs.Outcome.{Free, shown}
 use Rattle.yr_outcome.specs.Steps.{FitsAnswer}

@@ -3,7 +3,7 @@ use Rattle.yr_outcome.specs.declared.status.Status.TheVariants as status
 use Rattle.yr_outcome.specs.Front.{check_text}
 use Rattle.yr_outcome.specs.Steps.{IsRefusalOf}
 use Rattle.yr_outcome.specs.Texts.{at_line, line, code_name}
-use Rattle.yr_types.specs.Refusals.{refusal_of}
+use Rattle.yr_checks.specs.Refusals.{refusal_of}
 use Rattle.yr_front.proofs.TextLemmas.{other-code}
 use Rattle.yr_front.proofs.checking.refuse_without_rule.Goals as goal
 

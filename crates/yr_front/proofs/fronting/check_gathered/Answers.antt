@@ -1,8 +1,8 @@
 use Rattle.std.proofs.Common.{◌≡◌, List, map, Result, Ok, Err, MatchResult, sym, ap, subst, ◌∙◌}
 use Rattle.std.proofs.lemmas.Result.{err_from_is_err_and}
 use Rattle.yr_rules.specs.Rules.{rules_of}
-use Rattle.yr_types.specs.declared.unit.Unit.{Unit}
-use Rattle.yr_types.specs.Sources.{UnitTree, unit_of}
+use Rattle.yr_checks.specs.declared.unit.Unit.{Unit}
+use Rattle.yr_checks.specs.Sources.{UnitTree, unit_of}
 use Rattle.yr_words.specs.Shown.{given_shown}
 use Rattle.yr_outcome.specs.Front.{Refusal, unit_trees, with_trees}
 use Rattle.yr_front.specs.Units.{unit_shown, RefusesAs}

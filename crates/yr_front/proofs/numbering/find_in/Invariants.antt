@@ -1,5 +1,5 @@
 use Rattle.std.proofs.Common.{◌≡◌, map, ◌+◌, length, slice_get}
-use Rattle.yr_types.specs.Sources.{unit_of}
+use Rattle.yr_checks.specs.Sources.{unit_of}
 use Rattle.yr_front.specs.RuleNames.{all_names}
 use Rattle.yr_front.proofs.numbering.find_in.Given as goal
 

@@ -1,5 +1,5 @@
 use Rattle.std.proofs.Common.{map}
-use Rattle.yr_types.specs.Sources.{unit_of}
+use Rattle.yr_checks.specs.Sources.{unit_of}
 use Rattle.yr_front.proofs.RuleNameLemmas.{found-name, found-none}
 use Rattle.yr_front.proofs.numbering.rule_name.Goals as goal
 

@@ -1,7 +1,7 @@
 use Rattle.std.proofs.Common.{◌≡◌, ◌+◌, ◌∷◌, ◌++◌, [], List, map, take, drop, sym, ap, ◌∙◌, append-nil}
 use Rattle.std.proofs.lemmas.List.{map-append}
 use Rattle.std.proofs.lemmas.Result.{err_from_is_err_and}
-use Rattle.yr_types.specs.Sources.{unit_of}
+use Rattle.yr_checks.specs.Sources.{unit_of}
 use Rattle.yr_outcome.specs.Front.{GatheredUnit, unit_tree, unit_trees}
 use Rattle.yr_front.specs.Units.{unit_shown, behind}
 use Rattle.yr_front.proofs.EachLemmas.{rest-item, front-item, each-step, each-stop}

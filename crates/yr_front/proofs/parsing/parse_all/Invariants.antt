@@ -1,7 +1,7 @@
 use Rattle.std.proofs.Common.{◌≡◌, List, All, map, take, drop}
 use Rattle.yr_syntax.specs.Declaration.{declarations_of}
 use Rattle.yr_syntax.specs.Forms.{HaveForms}
-use Rattle.yr_types.specs.Sources.{unit_of}
+use Rattle.yr_checks.specs.Sources.{unit_of}
 use Rattle.yr_outcome.specs.Front.{Reading, IsReading, unit_trees}
 use Rattle.yr_values.specs.Names.{NamedModule}
 use Rattle.yr_front.specs.Units.{unit_shown, behind}

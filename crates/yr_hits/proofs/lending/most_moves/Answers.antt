@@ -1,7 +1,7 @@
 use Rattle.std.proofs.Common.{◌≡◌, ◌≤◌, inl, inr, sym, subst, arith}
 use Rattle.yr_machine.specs.Budget.{moves_count}
 use Rattle.yr_image.specs.Views.{shown_bytes, image_of}
-use Rattle.yr_verifier.proofs.CallerLemmas.{has_sections}
+use Rattle.yr_machine.proofs.CallerLemmas.{has_sections}
 use Rattle.yr_hits.proofs.SectionLemmas.{program_rows, moves_at, no_moves}
 use Rattle.yr_hits.proofs.LendingLemmas.{above_max, below_or_at}
 use Rattle.yr_hits.proofs.lending.most_moves.Goals as goal

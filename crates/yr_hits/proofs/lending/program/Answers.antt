@@ -3,7 +3,7 @@ use Rattle.std.specs.Prelude.{◌*◌}
 use Rattle.std.proofs.lemmas.List.{length-drop, length-take-le}
 use Rattle.yr_rows.specs.Moves.{moves_in, sets_in}
 use Rattle.yr_image.specs.Views.{shown_bytes}
-use Rattle.yr_verifier.proofs.CallerLemmas.{has_sections}
+use Rattle.yr_machine.proofs.CallerLemmas.{has_sections}
 use Rattle.yr_hits.proofs.SectionLemmas.{section_bytes, program_in_bytes}
 use Rattle.yr_hits.proofs.LendingLemmas.{program_of}
 use Rattle.yr_hits.proofs.lending.program.Goals as goal

@@ -1,8 +1,8 @@
 use Rattle.std.proofs.Common.{refl}
 use Rattle.std.specs.Fmt.{digits}
 use Rattle.yr_lexer.specs.Includes.{walk_down}
-use Rattle.yr_types.specs.Checks.{unused_string}
-use Rattle.yr_numbered.specs.Names.{means_some, is_meant, has_front}
+use Rattle.yr_checks.specs.Checks.{unused_string}
+use Rattle.yr_name_tables.specs.Names.{means_some, is_meant, has_front}
 use Rattle.yr_outcome.proofs.laws.small_runs.Goals as goal
 
 pub returns-clause-two_spaces : goal.returns-clause-two_spaces

@@ -1,6 +1,6 @@
 use Rattle.std.proofs.Common.{map}
 use Rattle.yr_values.specs.Values.{shown}
-use Rattle.yr_verifier.specs.Verified.{bytes_of}
+use Rattle.yr_machine.specs.Verified.{bytes_of}
 use Rattle.yr_words.specs.Shown.{flags_shown}
 use Rattle.yr_scan.proofs.ReportLemmas.{fits_report}
 use Rattle.yr_scan.proofs.imaging.report_read.Goals as goal

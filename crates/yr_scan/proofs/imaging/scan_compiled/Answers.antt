@@ -1,15 +1,15 @@
 use Rattle.std.proofs.Common.{◌≡◌, ◌∙◌, ◌++◌, [], All, List, map, refl, ap, sym, subst}
-use Rattle.yr_code.specs.Preserves.{IsGivenValue, externals_in}
-use Rattle.yr_code.specs.Shape.{IsCompiled}
+use Rattle.yr_preserves.specs.Preserves.{IsGivenValue, externals_in}
+use Rattle.yr_preserves.specs.Shape.{IsCompiled}
 use Rattle.yr_image.specs.Reading.{image_in}
 use Rattle.yr_machine.specs.ImageRun.{FitExternals}
 use Rattle.yr_meaning.specs.Scan.{scan_report}
 use Rattle.yr_outcome.specs.Answers.{hits_line, options_of, own_values}
 use Rattle.yr_outcome.specs.Externals.{values_with}
 use Rattle.yr_outcome.specs.Outcome.{CompiledHits, if_stats, shown as shown_answer}
-use Rattle.yr_scanning.specs.Scanned.{module_values}
+use Rattle.yr_scan.specs.Scanned.{module_values}
 use Rattle.yr_values.specs.Values.{Value, shown}
-use Rattle.yr_verifier.specs.Verified.{bytes_of}
+use Rattle.yr_machine.specs.Verified.{bytes_of}
 use Rattle.yr_words.specs.Shown.{flags_shown}
 use Rattle.yr_scan.proofs.FitLemmas.{fit_externals}
 use Rattle.yr_scan.proofs.ReportLemmas.{gives_by_rules, stops_now}

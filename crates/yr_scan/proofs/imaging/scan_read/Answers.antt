@@ -1,5 +1,5 @@
 use Rattle.std.proofs.Common.{◌≡◌, [], Some, None, map, refl, ap, sym, subst}
-use Rattle.yr_code.specs.Preserves.{externals_in}
+use Rattle.yr_preserves.specs.Preserves.{externals_in}
 use Rattle.yr_machine.specs.Wellformed.{IsWellformed}
 use Rattle.yr_outcome.specs.declared.status.Status.TheVariants as status
 use Rattle.yr_outcome.specs.Externals.{first_misfit}

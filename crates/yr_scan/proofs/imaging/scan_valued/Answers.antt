@@ -1,5 +1,5 @@
 use Rattle.std.proofs.Common.{◌≡◌, ◌∙◌, ◌++◌, List, map, ap, sym, subst}
-use Rattle.yr_code.specs.Preserves.{externals_in}
+use Rattle.yr_preserves.specs.Preserves.{externals_in}
 use Rattle.yr_image.specs.Reading.{image_in}
 use Rattle.yr_machine.specs.ImageRun.{FitExternals}
 use Rattle.yr_outcome.specs.Answers.{hits_line, options_of}
@@ -8,7 +8,7 @@ use Rattle.yr_outcome.specs.Fits.{seen}
 use Rattle.yr_outcome.specs.Outcome.{ReportedBy, image_scanned, shown as shown_answer}
 use Rattle.yr_outcome.specs.Steps.{FitsAnswer}
 use Rattle.yr_values.specs.Values.{Value, shown}
-use Rattle.yr_verifier.specs.Verified.{bytes_of}
+use Rattle.yr_machine.specs.Verified.{bytes_of}
 use Rattle.yr_words.specs.Shown.{flags_shown, given_shown}
 use Rattle.yr_scan.proofs.FitLemmas.{fit_externals}
 use Rattle.yr_scan.proofs.ReportLemmas.{gives_by_image}

@@ -1,5 +1,5 @@
 use Rattle.std.proofs.Common.{◌≡◌, [], Some, None, map, refl, ap, sym, subst}
-use Rattle.yr_code.specs.Preserves.{externals_in}
+use Rattle.yr_preserves.specs.Preserves.{externals_in}
 use Rattle.yr_outcome.specs.declared.status.Status.TheVariants as status
 use Rattle.yr_outcome.specs.Externals.{first_misfit}
 use Rattle.yr_outcome.specs.Fits.{seen}
@@ -7,7 +7,7 @@ use Rattle.yr_outcome.specs.Outcome.{with_externals}
 use Rattle.yr_outcome.specs.Steps.{FitsAnswer}
 use Rattle.yr_outcome.specs.Texts.{external_text}
 use Rattle.yr_outcome.proofs.CallerLemmas.{refuses}
-use Rattle.yr_verifier.specs.Verified.{bytes_of}
+use Rattle.yr_machine.specs.Verified.{bytes_of}
 use Rattle.yr_words.specs.Shown.{flags_shown, given_shown}
 use Rattle.yr_scan.specs.Misfits.{why}
 use Rattle.yr_scan.proofs.ReportLemmas.{reads_none}

@@ -2,7 +2,7 @@ use Rattle.std.proofs.Common.{◌≡◌, ◌∙◌, ◌<◌, ◌≤◌, length, 
 use Rattle.std.specs.Str.{bytes_eq}
 use Rattle.yr_image.specs.Views.{image_of, shown_bytes}
 use Rattle.yr_machine.specs.Names.{note_name}
-use Rattle.yr_verifier.proofs.CallerLemmas.{has_sections}
+use Rattle.yr_machine.proofs.CallerLemmas.{has_sections}
 use Rattle.yr_scan.proofs.ExternalLemmas.{external_rows}
 use Rattle.yr_scan.proofs.FitLemmas.{found_here, found_next, found_none}
 use Rattle.yr_scan.proofs.misfits.external_named.Goals as goal

@@ -1,5 +1,5 @@
 use Rattle.std.proofs.Common.{◌≡◌, drop, map}
-use Rattle.yr_code.specs.Preserves.{external_in, externals_in}
+use Rattle.yr_preserves.specs.Preserves.{external_in, externals_in}
 use Rattle.yr_image.specs.Views.{image_of, shown_bytes}
 use Rattle.yr_outcome.specs.Externals.{external_named}
 use Rattle.yr_scan.proofs.misfits.external_named.Given as goal

@@ -1,9 +1,9 @@
 use Rattle.std.proofs.Common.{◌≡◌, ◌∙◌, Some, None, subst, sym}
 use Rattle.std.specs.Prelude.{slice_index_or}
-use Rattle.yr_code.specs.Preserves.{externals_in}
+use Rattle.yr_preserves.specs.Preserves.{externals_in}
 use Rattle.yr_image.specs.Views.{shown_bytes}
 use Rattle.yr_outcome.specs.Externals.{external_named, misfit}
-use Rattle.yr_verifier.specs.Verified.{bytes_of}
+use Rattle.yr_machine.specs.Verified.{bytes_of}
 use Rattle.yr_words.specs.Shown.{given_shown}
 use Rattle.yr_scan.specs.Misfits.{refusal_of}
 use Rattle.yr_scan.proofs.FitLemmas.{head_misfit, tail_misfit, none_misfits}

@@ -1,7 +1,7 @@
 use Rattle.std.proofs.Common.{◌≡◌, length, map}
-use Rattle.yr_code.specs.Preserves.{externals_in}
+use Rattle.yr_preserves.specs.Preserves.{externals_in}
 use Rattle.yr_outcome.specs.Externals.{first_misfit}
-use Rattle.yr_verifier.specs.Verified.{bytes_of}
+use Rattle.yr_machine.specs.Verified.{bytes_of}
 use Rattle.yr_words.specs.Shown.{given_shown}
 use Rattle.yr_scan.proofs.misfits.first_misfit.Given as goal
 

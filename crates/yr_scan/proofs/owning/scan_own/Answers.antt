@@ -1,13 +1,13 @@
 use Rattle.std.proofs.Common.{◌≡◌, ◌∙◌, [], All, IfOk, List, map, refl, ap, sym, subst}
 use Rattle.yr_answer.specs.Truths.{truths_shown}
-use Rattle.yr_code.specs.Preserves.{HaveKindsOf, IsGivenValue, externals_in}
+use Rattle.yr_preserves.specs.Preserves.{HaveKindsOf, IsGivenValue, externals_in}
 use Rattle.yr_image.specs.Reading.{image_in}
 use Rattle.yr_machine.specs.ImageRun.{FitExternals}
 use Rattle.yr_outcome.specs.Answers.{own_values}
 use Rattle.yr_outcome.specs.Externals.{values_with}
-use Rattle.yr_scanning.specs.Scanned.{IsScan}
+use Rattle.yr_scan.specs.Scanned.{IsScan}
 use Rattle.yr_values.specs.Values.{Value, shown}
-use Rattle.yr_verifier.specs.Verified.{bytes_of}
+use Rattle.yr_machine.specs.Verified.{bytes_of}
 use Rattle.yr_scan.proofs.FitLemmas.{fit_externals, kinds_of_own}
 use Rattle.yr_scan.proofs.ReportLemmas.{if_ok_same}
 use Rattle.yr_scan.proofs.owning.scan_own.Goals as goal

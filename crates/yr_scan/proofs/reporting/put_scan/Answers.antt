@@ -6,7 +6,7 @@ use Rattle.yr_base.specs.declared.value.Truth.{Truth}
 use Rattle.yr_image.specs.Reading.{image_in}
 use Rattle.yr_machine.specs.Listing.{image_report}
 use Rattle.yr_outcome.specs.Answers.{hits_line, options_of}
-use Rattle.yr_verifier.specs.Verified.{bytes_of}
+use Rattle.yr_machine.specs.Verified.{bytes_of}
 use Rattle.yr_words.specs.Shown.{flags_shown}
 use Rattle.yr_scan.proofs.ReportLemmas.{AddsPrefix-front}
 use Rattle.yr_scan.proofs.reporting.put_scan.Goals as goal

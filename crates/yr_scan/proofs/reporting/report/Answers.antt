@@ -1,7 +1,7 @@
 use Rattle.std.proofs.Common.{map}
 use Rattle.yr_answer.specs.Truths.{truths_shown}
 use Rattle.yr_values.specs.Values.{shown}
-use Rattle.yr_verifier.specs.Verified.{bytes_of}
+use Rattle.yr_machine.specs.Verified.{bytes_of}
 use Rattle.yr_words.specs.Shown.{flags_shown}
 use Rattle.yr_scan.proofs.ReportLemmas.{reported}
 use Rattle.yr_scan.proofs.reporting.report.Goals as goal

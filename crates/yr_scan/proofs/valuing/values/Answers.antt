@@ -1,10 +1,10 @@
 use Rattle.std.proofs.Common.{◌≡◌, ◌∙◌, ◌++◌, ◌∷◌, [], ◌<◌, ◌≤◌, All, List, length, map, ap, sym, subst, arith}
 use Rattle.std.proofs.lemmas.List.Elements.{All-push}
-use Rattle.yr_code.specs.Preserves.{IsGivenValue, externals_in}
+use Rattle.yr_preserves.specs.Preserves.{IsGivenValue, externals_in}
 use Rattle.yr_image.specs.Views.{image_of, shown_bytes}
 use Rattle.yr_outcome.specs.Externals.{values_with}
 use Rattle.yr_values.specs.Values.{Value, shown}
-use Rattle.yr_verifier.proofs.CallerLemmas.{has_sections}
+use Rattle.yr_machine.proofs.CallerLemmas.{has_sections}
 use Rattle.yr_words.specs.Shown.{given_shown}
 use Rattle.yr_scan.proofs.ExternalLemmas.{external_rows}
 use Rattle.yr_scan.proofs.FitLemmas.{all_values, map_last, next_value}

@@ -1,5 +1,5 @@
 use Rattle.std.proofs.Common.{◌≡◌, All, map, take}
-use Rattle.yr_code.specs.Preserves.{IsGivenValue, external_in}
+use Rattle.yr_preserves.specs.Preserves.{IsGivenValue, external_in}
 use Rattle.yr_image.specs.Views.{image_of}
 use Rattle.yr_outcome.specs.Externals.{values_with}
 use Rattle.yr_values.specs.Values.{shown}

@@ -1,6 +1,6 @@
 use Rattle.std.proofs.Common.{Contains, sym, ◌∙◌, subst, arith}
 use Rattle.yr_image.specs.Views.{shown_bytes}
-use Rattle.yr_verifier.proofs.CallerLemmas.{has_sections}
+use Rattle.yr_machine.proofs.CallerLemmas.{has_sections}
 use Rattle.yr_hits.proofs.SectionLemmas.{string_rows}
 use Rattle.yr_hits.proofs.MemberLemmas.{contains_none}
 use Rattle.yr_search.proofs.StateLemmas.{all_empty}

@@ -6,7 +6,7 @@ use Rattle.yr_answer.specs.MatchList.{Match}
 use Rattle.yr_image.specs.declared.rows.StringRow.{StringRow}
 use Rattle.yr_image.specs.Views.{shown_bytes, image_of}
 use Rattle.yr_machine.specs.ImageMatches.{is_greatest}
-use Rattle.yr_verifier.proofs.CallerLemmas.{has_sections}
+use Rattle.yr_machine.proofs.CallerLemmas.{has_sections}
 use Rattle.yr_hits.specs.Gathering.{IsSettled}
 use Rattle.yr_hits.proofs.SectionLemmas.{string_rows}
 use Rattle.yr_search.proofs.StateLemmas.{set_cases, set_length}

@@ -1,7 +1,7 @@
 use Rattle.std.proofs.Common.{◌≡◌, ◌+◌, ◌*◌, ◌++◌, ◌∷◌, [], length, sym, ap, ◌∙◌, subst, arith, length-append}
 use Rattle.std.specs.Prelude.{slice_get}
 use Rattle.yr_image.specs.Views.{shown_bytes, image_of}
-use Rattle.yr_matches.specs.Found.{items_of}
+use Rattle.yr_answer.specs.Found.{items_of}
 use Rattle.yr_search.specs.State.{state_of, hits_in, owed_by, cost_later, owed}
 use Rattle.yr_search.specs.Taking.{TakesLater}
 use Rattle.yr_search.proofs.StateLemmas.{hits_more, hits_length, get_before, get_last, owed_last, paid_last}

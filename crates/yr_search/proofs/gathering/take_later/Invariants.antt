@@ -1,7 +1,7 @@
 use Rattle.std.proofs.Common.{◌≡◌, ◌+◌, ◌≤◌, List, length}
 use Rattle.yr_answer.specs.MatchList.{Match}
 use Rattle.yr_image.specs.Views.{image_of}
-use Rattle.yr_matches.specs.Found.{items_of}
+use Rattle.yr_answer.specs.Found.{items_of}
 use Rattle.yr_search.specs.State.{state_of, hits_in, AreInFile, owed}
 use Rattle.yr_search.specs.Taking.{TakesLater}
 use Rattle.yr_search.proofs.gathering.take_later.Given as goal

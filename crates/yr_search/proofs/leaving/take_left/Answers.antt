@@ -2,7 +2,7 @@ use Rattle.std.proofs.Common.{◌≡◌, [], length, refl, ◌∙◌, arith, rul
 use Rattle.std.proofs.lemmas.List.{nil_from_length}
 use Rattle.std.proofs.lemmas.Option.{slice_get_read}
 use Rattle.yr_image.specs.Views.{shown_bytes, image_of}
-use Rattle.yr_matches.specs.Found.{items_of}
+use Rattle.yr_answer.specs.Found.{items_of}
 use Rattle.yr_hits.proofs.HitLemmas.{there}
 use Rattle.yr_hits.proofs.GrowLemmas.{on_ok}
 use Rattle.yr_hits.proofs.SideLemmas.{good_fields}

@@ -1,6 +1,6 @@
 use Rattle.std.proofs.Common.{ap, arith, length}
 use Rattle.yr_image.specs.Views.{shown_bytes}
-use Rattle.yr_verifier.proofs.CallerLemmas.{has_sections}
+use Rattle.yr_machine.proofs.CallerLemmas.{has_sections}
 use Rattle.yr_hits.proofs.SectionLemmas.{section_bytes}
 use Rattle.yr_search.proofs.scene.scene_of.Goals as goal
 

@@ -2,7 +2,7 @@ use Rattle.std.proofs.Common.{◌≡◌, ◌≤◌, ◌+◌, length, sym, ap, �
 use Rattle.yr_image.specs.Reading.{image_in}
 use Rattle.yr_image.specs.Views.{shown_bytes, image_of}
 use Rattle.yr_machine.specs.Budget.{search_budget}
-use Rattle.yr_verifier.specs.Verified.{bytes_of}
+use Rattle.yr_machine.specs.Verified.{bytes_of}
 use Rattle.yr_hits.specs.Programs.{HasRoom}
 use Rattle.yr_search.specs.FoundIn.{IsFoundIn}
 use Rattle.yr_search.specs.State.{state_of}

@@ -1,6 +1,6 @@
 use Rattle.std.proofs.Common.{ℕ, List, length, set, Result, Ok, Err, OnErr, refl, ap, ◌∙◌}
 use Rattle.std.proofs.lemmas.Option.{slice_get_read}
-use Rattle.yr_matches.specs.Found.{items_of}
+use Rattle.yr_answer.specs.Found.{items_of}
 use Rattle.yr_search.specs.State.{State, hits_in}
 use Rattle.yr_search.proofs.StateLemmas.{hits_get, hits_set, set_same}
 use Rattle.yr_search.proofs.taking.leave.Goals as goal

@@ -3,7 +3,7 @@ use Rattle.yr_pattern.specs.Variants.{PlainVariant, variant_of}
 use Rattle.yr_rules.specs.Rules.{string_of}
 use Rattle.yr_atoms.specs.Coded.{word}
 use Rattle.yr_image.specs.declared.rows.StringRow.{StringRow}
-use Rattle.yr_tables.specs.Added.{HasText}
+use Rattle.yr_draft.specs.Added.{HasText}
 use Rattle.yr_splits.specs.Filling.{FilledPart}
 use Rattle.yr_splits.proofs.FillLemmas.{filled_begins, filled_ends}
 use Rattle.yr_splits.proofs.string.put_string.Goals as goal

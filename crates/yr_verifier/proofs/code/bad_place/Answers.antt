@@ -1,8 +1,8 @@
 use Rattle.std.proofs.Common.{ap, sym, ◌∙◌, subst}
 use Rattle.yr_image.specs.Views.{image_of}
 use Rattle.yr_machine.specs.CodeWalk.{code_fault}
-use Rattle.yr_codewalk.specs.Rows.{rows_shown}
-use Rattle.yr_codewalk.specs.Blocks.{AreMost}
+use Rattle.yr_verifier.specs.Rows.{rows_shown}
+use Rattle.yr_verifier.specs.Blocks.{AreMost}
 use Rattle.yr_verifier.proofs.CodeLemmas.{code_found}
 use Rattle.yr_verifier.proofs.code.bad_place.Goals as goal
 

@@ -5,7 +5,7 @@ use Rattle.std.proofs.lemmas.Bool.{le-leb}
 use Rattle.yr_image.specs.Views.{image_of, shown_bytes}
 use Rattle.yr_image.specs.Reading.{zeros_in}
 use Rattle.yr_machine.specs.Rows.{is_good_split}
-use Rattle.yr_codewalk.proofs.CountLemmas.{splits_counted, zeros_counted}
+use Rattle.yr_verifier.proofs.CountLemmas.{splits_counted, zeros_counted}
 use Rattle.yr_verifier.proofs.RowLemmas.{row_missing}
 use Rattle.yr_verifier.proofs.rows.split_passes.Goals as goal
 

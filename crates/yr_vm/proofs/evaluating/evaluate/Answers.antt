@@ -6,7 +6,7 @@ use Rattle.yr_image.specs.Views.{image_of}
 use Rattle.yr_machine.specs.ImageRun.{KnowsPrograms}
 use Rattle.yr_machine.specs.Operations.{Context}
 use Rattle.yr_hits.specs.Programs.{HasRoom}
-use Rattle.yr_verifier.specs.Verified.{bytes_of}
+use Rattle.yr_machine.specs.Verified.{bytes_of}
 use Rattle.yr_vm.specs.Evaluation.{IsEvaluation}
 use Rattle.yr_vm.specs.Worlds.{context_of}
 use Rattle.yr_vm.proofs.evaluating.evaluate.Goals as goal
@@ -16,7 +16,7 @@ run_rules-requires-clause-knows g c = c.some_programs_are_known.ensures (image_o
 
 pub run_rules-requires-clause-room : goal.run_rules-requires-clause-room
 run_rules-requires-clause-room g c =
-    subst (λ (bytes : List ℕ). HasRoom (image_in bytes) c.args.scratch.now.marks.room) (sym c.view.ensures.bytes) c.requires.scratch.room
+    subst (λ (bytes : List ℕ). HasRoom (image_in bytes) c.args.marks.now.room) (sym c.view.ensures.bytes) c.requires.room
 
 pub returns-clause-evaluation : goal.returns-clause-evaluation
 returns-clause-evaluation g c context of =

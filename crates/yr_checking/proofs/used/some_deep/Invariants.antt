@@ -1,0 +1,8 @@
+use Rattle.std.proofs.Common.{◌≡◌, drop, map}
+use Rattle.std.specs.List.{list_any}
+use Rattle.yr_conditions.specs.UseViews.{use_of}
+use Rattle.yr_checks.specs.Checks.{is_deep}
+use Rattle.yr_checking.proofs.used.some_deep.Given as goal
+
+abbrev pub invariant-loop-used : goal.invariant-loop-used
+invariant-loop-used l = list_any is_deep (map use_of l.uses) ≡ list_any is_deep (map use_of (drop l.used-index l.uses))

@@ -1,0 +1,12 @@
+pub mod AtHand
+pub mod Late
+pub mod Stages
+pub mod Judged
+pub mod Sets
+pub mod Spaces
+pub mod Walked
+pub mod Findings
+pub mod Placed
+pub mod Unused
+pub mod TextSizes
+pub mod Known

@@ -1,0 +1,15 @@
+pub mod Sources
+pub mod Given
+pub mod Patterns
+pub mod Checked
+pub mod Checks
+pub mod Refusals
+pub mod Resolving
+pub mod Fitting
+pub mod Examples
+pub mod SmallRules
+pub use Rattle.yr_name_tables.specs.Names
+pub use Rattle.yr_conditions.specs.Readers
+pub use Rattle.yr_conditions.specs.Meanings
+pub use Rattle.yr_conditions.specs.Uses
+pub use Rattle.yr_conditions.specs.Nodes

@@ -1,6 +1,0 @@
-use Rattle.std.proofs.Common.{sym, ◌∙◌}
-use Rattle.yr_codewalk.proofs.CountLemmas.{notes_counted}
-use Rattle.yr_codewalk.proofs.counting.count_notes.Goals as goal
-
-pub returns : goal.returns
-returns c = c.rows.ensures ∙ sym (notes_counted c.args.view.now.bytes.now c.args.view.now.fits)

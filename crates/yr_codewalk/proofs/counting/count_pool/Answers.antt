@@ -1,6 +1,0 @@
-use Rattle.std.proofs.Common.{sym, ◌∙◌}
-use Rattle.yr_codewalk.proofs.CountLemmas.{pool_counted}
-use Rattle.yr_codewalk.proofs.counting.count_pool.Goals as goal
-
-pub returns : goal.returns
-returns c = c.rows.ensures ∙ sym (pool_counted c.args.view.now.bytes.now c.args.view.now.fits)

@@ -1,7 +1,0 @@
-use Rattle.std.proofs.Common.{sym, ap, ◌∙◌}
-use Rattle.yr_machine.specs.Roles.{numbers}
-use Rattle.yr_codewalk.proofs.EffectLemmas.{copies-numbers}
-use Rattle.yr_codewalk.proofs.effect.quantified.Goals as goal
-
-pub returns : goal.returns
-returns c = copies-numbers c.args.count _ ∙ ap (numbers c.args.count) (sym c.is_numbered.ensures)

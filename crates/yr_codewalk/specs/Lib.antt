@@ -1,5 +1,0 @@
-pub mod Stacks
-pub mod Effects
-pub mod Rows
-pub mod Steps
-pub mod Blocks

@@ -1,0 +1,13 @@
+mod CheckLemmas
+mod TruthLemmas
+mod ReportLemmas
+mod CompiledLemmas
+mod CodeLemmas
+mod BuildLemmas
+mod TextLemmas
+pub mod NoteLemmas
+mod RuleLemmas
+pub mod LoopLemmas
+pub mod ListedLemmas
+pub mod PassLemmas
+pub mod NameLemmas

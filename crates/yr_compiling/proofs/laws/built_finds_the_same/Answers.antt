@@ -1,5 +1,0 @@
-use Rattle.yr_compiling.proofs.CompiledLemmas.{finds}
-use Rattle.yr_compiling.proofs.laws.built_finds_the_same.Goals as goal
-
-pub returns : goal.returns
-returns c = finds c.some_programs_are_known.ensures

@@ -1,0 +1,13 @@
+pub mod MeaningLemmas
+pub mod PathLemmas
+pub mod ReaderLemmas
+pub mod FixedLemmas
+pub mod LowLemmas
+pub mod ShapeLemmas
+pub mod NumberLemmas
+pub mod PartLemmas
+pub mod MadeLemmas
+pub mod WalkLemmas
+pub mod LoopLemmas
+pub mod TurnLemmas
+pub mod LowerLemmas

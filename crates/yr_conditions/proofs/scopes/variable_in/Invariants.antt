@@ -1,0 +1,13 @@
+use Rattle.std.proofs.Common.{◌≡◌, ◌≤◌, length, take, map}
+use Rattle.yr_conditions.specs.Meanings.{variable_meaning}
+use Rattle.yr_conditions.specs.UseViews.{innermost_first, scope_of}
+use Rattle.yr_conditions.proofs.scopes.variable_in.Given as goal
+
+abbrev pub invariant-loop-left : goal.invariant-loop-left
+invariant-loop-left l = record {
+  within : l.left ≤ length l.loops;
+  rest : variable_meaning l.word (innermost_first (map scope_of l.loops)) ≡ variable_meaning l.word (innermost_first (map scope_of (take l.left l.loops)));
+}
+
+abbrev pub decreases-loop-left : goal.decreases-loop-left
+decreases-loop-left l = l.left

@@ -1,0 +1,17 @@
+pub mod Meanings
+pub mod Uses
+pub mod UseViews
+pub mod Around
+pub mod Paths
+pub mod UseParts
+pub mod Readers
+pub mod Nodes
+pub mod Fixed
+pub mod Answers
+pub mod Shapes
+pub mod NodeViews
+pub mod Room
+pub mod Steps
+pub mod SetWeights
+pub mod WeightParts
+pub use Rattle.yr_name_tables.specs.Names

@@ -1,4 +1,0 @@
-pub mod NameLemmas
-pub mod EntryPointLemmas
-pub mod FieldLemmas
-pub mod ModuleRowLemmas

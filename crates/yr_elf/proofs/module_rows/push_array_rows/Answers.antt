@@ -1,8 +1,0 @@
--- Three rows, one after the other.
-use Rattle.std.proofs.Common.{rules, append_assoc}
-use Rattle.yr_elf.specs.ModuleRows.{array_rows}
-use Rattle.yr_elf.proofs.module_rows.push_array_rows.Goals as goal
-
-pub returns : goal.returns
-unfolding array_rows
-returns c = search (rules, append_assoc)

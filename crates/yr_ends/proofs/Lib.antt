@@ -1,8 +1,0 @@
-pub mod ListLemmas
-mod KeptLemmas
-mod ChainLemmas
-pub mod HoldLemmas
-pub mod JoinLemmas
-mod FollowLemmas
-pub mod SpreadLemmas
-mod EndLemmas

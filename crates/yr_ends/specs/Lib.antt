@@ -1,4 +1,0 @@
-pub mod Carried
-pub mod Arcs
-pub mod Spreads
-pub mod EndWalks

@@ -1,5 +1,0 @@
-use Rattle.yr_findings.proofs.KnownLemmas.{MeetsBelow}
-use Rattle.yr_findings.proofs.known.add_fronts.Given as goal
-
-abbrev pub invariant-loop-size : goal.invariant-loop-size
-invariant-loop-size l = MeetsBelow l.size l.fronts l.name l.initial.met l.met

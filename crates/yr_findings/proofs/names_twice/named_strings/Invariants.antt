@@ -1,8 +1,0 @@
-use Rattle.std.proofs.Common.{◌≡◌, ◌++◌, drop, map, filter}
-use Rattle.yr_syntax.specs.Declaration.{string_of}
-use Rattle.yr_types.specs.Checks.{is_named}
-use Rattle.yr_findings.proofs.names_twice.named_strings.Given as goal
-
-abbrev pub invariant-loop-string : goal.invariant-loop-string
-invariant-loop-string l =
-    l.all.items ++ filter is_named (map (λ s. s.name) (map string_of (drop l.string-index l.strings))) ≡ filter is_named (map (λ s. s.name) (map string_of l.strings))

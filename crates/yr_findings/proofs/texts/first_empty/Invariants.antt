@@ -1,8 +1,0 @@
-use Rattle.std.proofs.Common.{◌≡◌, drop, map}
-use Rattle.yr_numbered.specs.Names.{first}
-use Rattle.yr_syntax.specs.Declaration.{string_of}
-use Rattle.yr_types.specs.Patterns.{empty_string}
-use Rattle.yr_findings.proofs.texts.first_empty.Given as goal
-
-abbrev pub invariant-loop-string : goal.invariant-loop-string
-invariant-loop-string l = first empty_string (map string_of l.strings) ≡ first empty_string (map string_of (drop l.string-index l.strings))

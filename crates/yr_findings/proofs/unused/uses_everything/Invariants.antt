@@ -1,8 +1,0 @@
-use Rattle.std.proofs.Common.{◌≡◌, drop, map}
-use Rattle.std.specs.List.{list_any}
-use Rattle.yr_uses.specs.Views.{use_of}
-use Rattle.yr_findings.specs.Unused.{is_everything}
-use Rattle.yr_findings.proofs.unused.uses_everything.Given as goal
-
-abbrev pub invariant-loop-used : goal.invariant-loop-used
-invariant-loop-used l = list_any is_everything (map use_of l.uses) ≡ list_any is_everything (map use_of (drop l.used-index l.uses))

@@ -1,8 +1,0 @@
-use Rattle.std.proofs.Common.{◌≡◌, drop, map}
-use Rattle.yr_numbered.specs.Names.{first}
-use Rattle.yr_uses.specs.Views.{use_of}
-use Rattle.yr_types.specs.Checks.{unknown_string}
-use Rattle.yr_findings.proofs.used.first_unknown_token.Given as goal
-
-abbrev pub invariant-loop-used : goal.invariant-loop-used
-invariant-loop-used l = first (unknown_string l.strings.names.now) (map use_of l.uses) ≡ first (unknown_string l.strings.names.now) (map use_of (drop l.used-index l.uses))

@@ -1,7 +1,0 @@
-use Rattle.std.proofs.Common.{map, take}
-use Rattle.yr_rules.specs.Rules.{external_of}
-use Rattle.yr_listings.specs.Putting.{PutsExternals}
-use Rattle.yr_listings.proofs.external.put_externals.Given as goal
-
-abbrev pub invariant-loop-e : goal.invariant-loop-e
-invariant-loop-e l = PutsExternals l.initial.draft l.draft (map external_of (take l.e-index l.externals))

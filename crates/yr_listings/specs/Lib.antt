@@ -1,4 +1,0 @@
-pub mod Notes
-pub mod Rules
-pub mod Codes
-pub mod Putting

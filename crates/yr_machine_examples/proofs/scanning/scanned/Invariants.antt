@@ -1,4 +1,0 @@
-use Rattle.yr_machine_examples.proofs.scanning.scanned.Given as goal
-
-abbrev pub ghosts-scan_with : goal.ghosts-scan_with
-ghosts-scan_with a = record { name = a.blank.name; parts = a.blank.parts }

@@ -1,9 +1,0 @@
-use Rattle.std.proofs.Common.{map, ◌-◌}
-use Rattle.yr_numbered.proofs.OrderLemmas.{IsNarrowed}
-use Rattle.yr_numbered.proofs.order.place.Given as goal
-
-abbrev pub invariant-loop-low : goal.invariant-loop-low
-invariant-loop-low l = IsNarrowed l.order (map (λ n. n.now) l.names) l.front l.wild l.through l.low l.high
-
-abbrev pub decreases-loop-low : goal.decreases-loop-low
-decreases-loop-low l = l.high - l.low

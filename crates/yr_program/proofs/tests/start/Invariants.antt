@@ -1,4 +1,0 @@
-use Rattle.yr_program.proofs.tests.start.Given as goal
-
-abbrev pub ghosts-start_of : goal.ghosts-start_of
-ghosts-start_of g a = record { name = a.blank.name; parts = a.blank.parts }

@@ -1,3 +1,0 @@
-pub mod NewLemmas
-mod TableLemmas
-mod WindowLemmas

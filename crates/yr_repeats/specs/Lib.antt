@@ -1,4 +1,0 @@
-pub mod Names
-pub mod Hashes
-pub mod Tables
-pub mod Windows

@@ -1,6 +1,0 @@
-use Rattle.yr_matches.specs.Found.{IsReadable}
-use Rattle.yr_report.specs.Made.{AreBelow}
-use Rattle.yr_report.proofs.tests.readable.readable.Given as goal
-
-abbrev pub invariant-loop-found : goal.invariant-loop-found
-invariant-loop-found l = record { readable : IsReadable l.list.items; below : AreBelow l.least l.list.items }

@@ -1,9 +1,0 @@
-use Rattle.std.proofs.Common.{◌≡◌, drop}
-use Rattle.yr_numbered.specs.Names.{first}
-use Rattle.yr_resolving.specs.AtHand.{given_at, placed_at}
-use Rattle.yr_resolving.specs.Stages.{early_fault}
-use Rattle.yr_resolving.proofs.stages.first_early.Given as goal
-
-abbrev pub invariant-loop-check : goal.invariant-loop-check
-invariant-loop-check l =
-    first (early_fault (given_at l.at) (placed_at l.at)) l.checks ≡ first (early_fault (given_at l.at) (placed_at l.at)) (drop l.check-index l.checks)

@@ -1,7 +1,0 @@
-use Rattle.std.proofs.Common.{map}
-use Rattle.yr_types.specs.Sources.{unit_of}
-use Rattle.yr_types.specs.Resolving.{AreUnits}
-use Rattle.yr_rule_examples.proofs.answers.answer.Given as goal
-
-abbrev pub invariant-loop-part : goal.invariant-loop-part
-invariant-loop-part l = AreUnits (map unit_of l.units.items)

@@ -1,2 +1,0 @@
-pub mod SetWeights
-pub mod Parts

@@ -1,5 +1,0 @@
-mod RunLemmas
-mod MergeLemmas
-mod StartLemmas
-mod OpenLemmas
-mod SpanLemmas

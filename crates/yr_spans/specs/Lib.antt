@@ -1,2 +1,0 @@
-pub mod StartWalks
-pub mod Spans

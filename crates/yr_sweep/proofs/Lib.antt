@@ -1,9 +1,0 @@
-pub mod OrderLemmas
-pub mod PaidLemmas
-pub mod FitLemmas
-pub mod SweepLemmas
-pub mod EndLemmas
-pub mod PlaceLemmas
-pub mod StartLemmas
-pub mod SpanLemmas
-pub mod SplitLemmas
