@@ -1,173 +1,98 @@
-//! Encodes tables and reads all rows of the image back. With an argument it prints how many bytes a second.
+//! Times what makes images and what reads them. With no argument it says only what small images
+//! are; with the name of a subject, or `all`, how long the work takes. After `compile` a word
+//! chooses one of its two kinds of rules.
 #![tactic(auto)]
 
-ghost use Rattle.std.specs.Prelude.{◌≡◌, ◌+◌, ◌*◌, ◌≤◌, ◌<◌, ◌^◌, IfOk, length};
-ghost use Rattle.yr_image.specs.Image.{shown};
-ghost use Rattle.yr_image.specs.Encoding.{encoded, encoded_length};
-ghost use Rattle.yr_image.specs.Fits.{Fits};
-ghost use Rattle.yr_image.specs.Sections.{most_bytes};
-ghost use Rattle.yr_image.specs.Views.{image_of};
+mod compile;
+mod drafts;
+mod encoding;
+mod report;
+mod stopwatch;
+mod verifier;
 
 use anyhow::bail;
-use std::alloc::{AllocError, Global};
 use std::env;
-use std::time::Instant;
-use yr_image::laws::{encodings_have_sections, tables_come_back};
-use yr_image::{CodeRow, ImageView, NodeRow, NoteRow, Tables, encode};
 
-const NODE: NodeRow = NodeRow {
-    first_edge: 0,
-    edges: 0,
-    failure: 0,
-    depth: 0,
-    first_output: 0,
-    outputs: 0,
-};
+/// What is timed.
+#[derive(Clone, Copy)]
+enum Subject {
+    /// Tables, encoded and read back.
+    Encoding,
+    /// The check of images.
+    Verifier,
+    /// The writing of reports.
+    Report,
+    /// The way from checked rules to an image.
+    Compile,
+}
 
-// So many rows of code, whose numbers differ.
-fn make_code(alloc: Global, rows: u32) -> Result<Vec<CodeRow>, AllocError>
-    ensures { IfOk result (λ code. length code.items ≡ rows) }
-{
-    let mut code = Vec::new(alloc);
-    for i in 0..rows {
-        code.push(CodeRow {
-            op: (i % 7) as u8,
-            a: (i % 5) as u8,
-            b: (i % 1000) as u16,
-            c: i,
-            d: u64::from(i) << 20,
-        })?;
+/// In the order in which they run.
+const SUBJECTS: [Subject; 4] = [
+    Subject::Encoding,
+    Subject::Verifier,
+    Subject::Report,
+    Subject::Compile,
+];
+
+impl Subject {
+    fn name(self) -> &'static str {
+        match self {
+            Subject::Encoding => "encoding",
+            Subject::Verifier => "verifier",
+            Subject::Report => "report",
+            Subject::Compile => "compile",
+        }
     }
-    Ok(code)
-}
 
-// So many notes, whose numbers differ.
-fn make_notes(alloc: Global, rows: u32) -> Result<Vec<NoteRow>, AllocError>
-    ensures { IfOk result (λ notes. length notes.items ≡ rows) }
-{
-    let mut notes = Vec::new(alloc);
-    for i in 0..rows {
-        notes.push(NoteRow {
-            kind: i % 4,
-            name_place: i,
-            name_length: i % 100,
-            value_length: i % 9,
-            value: u64::from(i) << 7,
-        })?;
+    fn show(self, rt: HostRuntime) -> anyhow::Result<()> {
+        match self {
+            Subject::Encoding => encoding::show_all(rt),
+            Subject::Verifier => verifier::show_all(rt),
+            Subject::Report => report::show_all(rt),
+            Subject::Compile => compile::show_all(rt),
+        }
     }
-    Ok(notes)
-}
 
-// So many rows of code and of notes, and one node.
-fn make_tables(alloc: Global, rows: u32) -> Result<Tables, AllocError>
-    requires { rows ≤ 50000000 }
-    ensures short { IfOk result (λ tables. encoded_length (shown tables) ≤ most_bytes) }
-    ensures no_rules { IfOk result (λ tables. length tables.rules.items ≡ 0) }
-    ensures no_strings { IfOk result (λ tables. length tables.strings.items ≡ 0) }
-    ensures a_node { IfOk result (λ tables. length tables.nodes.items ≡ 1) }
-    ensures code { IfOk result (λ tables. length tables.code.items ≡ rows) }
-    ensures notes { IfOk result (λ tables. length tables.notes.items ≡ rows) }
-{
-    let notes = make_notes(alloc, rows)?;
-    let code = make_code(alloc, rows)?;
-    Ok(Tables {
-        rules: Vec::new(alloc),
-        notes,
-        externals: Vec::new(alloc),
-        strings: Vec::new(alloc),
-        splits: Vec::new(alloc),
-        sets: Vec::new(alloc),
-        programs: Vec::new(alloc),
-        moves: Vec::new(alloc),
-        nodes: vec![in alloc; NODE]?,
-        edges: Vec::new(alloc),
-        outputs: Vec::new(alloc),
-        lists: Vec::new(alloc),
-        code,
-        pool: Vec::new(alloc),
-    })
-}
-
-// The numbers of a row of code and of a note, mixed.
-fn mixed(code: CodeRow, note: NoteRow) -> u64 {
-    (code.d ^ note.value)
-        .wrapping_add(u64::from(code.op ^ code.a))
-        .wrapping_add(u64::from(code.c ^ note.name_place))
-        .wrapping_add(u64::from(code.b))
-        .wrapping_add(u64::from(note.kind ^ note.name_length ^ note.value_length))
-}
-
-// The numbers of all rows, mixed.
-fn sum_of_rows(view: &ImageView<'_>, rows: u32) -> u64
-    requires code { rows ≤ length (image_of view.now).code }
-    requires notes { rows ≤ length (image_of view.now).notes }
-{
-    let mut sum = 0u64;
-    for k in 0..rows {
-        sum = sum.wrapping_add(mixed(view.code(k), view.note(k)));
+    fn time(self, rt: HostRuntime, chosen: Option<&str>) -> anyhow::Result<()> {
+        match self {
+            Subject::Encoding => encoding::time_all(rt),
+            Subject::Verifier => verifier::time_all(rt),
+            Subject::Report => report::time_all(rt),
+            Subject::Compile => compile::time_all(rt, chosen),
+        }
     }
-    sum
-}
-
-// The numbers of all rows of the encoding of tables, mixed.
-fn sum_of_image(bytes: &[u8], tables: &Tables, rows: u32) -> u64
-    requires encoding { bytes.now ≡ encoded (shown tables.now) }
-    requires fits { Fits (shown tables.now) }
-    requires short { encoded_length (shown tables.now) ≤ most_bytes }
-    requires no_rules { length tables.now.rules.items ≡ 0 }
-    requires no_strings { length tables.now.strings.items ≡ 0 }
-    requires a_node { length tables.now.nodes.items ≡ 1 }
-    requires code { length tables.now.code.items ≡ rows }
-    requires notes { length tables.now.notes.items ≡ rows }
-{
-    tables_come_back();
-    encodings_have_sections();
-    sum_of_rows(&ImageView::over(bytes), rows)
-}
-
-// The numbers of all rows, after the tables were encoded.
-fn sum_after_encoding(alloc: Global, rows: u32) -> anyhow::Result<u64>
-    requires { rows ≤ 50000000 }
-{
-    let tables = make_tables(alloc, rows)?;
-    let Ok(bytes) = encode(alloc, &tables) else {
-        bail!("no memory");
-    };
-    Ok(sum_of_image(&bytes, &tables, rows))
-}
-
-// Bytes a microsecond, which are megabytes a second.
-fn rate(bytes: usize, microseconds: u128) -> u128 {
-    bytes as u128 / microseconds.max(1)
-}
-
-fn time_rows(rt: HostRuntime, rows: u32) -> anyhow::Result<()>
-    requires { rows ≤ 50000000 }
-{
-    let alloc = rt.alloc();
-    let tables = make_tables(alloc, rows)?;
-    let start = Instant::now(&rt)?;
-    let Ok(bytes) = encode(alloc, &tables) else {
-        bail!("no memory");
-    };
-    let encoded = start.elapsed(&rt)?.as_micros();
-    let start = Instant::now(&rt)?;
-    let sum = sum_of_image(&bytes, &tables, rows);
-    let read = start.elapsed(&rt)?.as_micros();
-    let count = bytes.len();
-    let (written, lent) = (rate(count, encoded), rate(count, read));
-    println!(rt;
-        "{count} bytes (sum {sum}): encoded at {written} MB/s, all rows read at {lent} MB/s"
-    )?;
-    Ok(())
 }
 
 fn main(rt: HostRuntime) -> anyhow::Result<()> {
-    if env::args(&rt)?.count() < 2 {
-        let sum = sum_after_encoding(rt.alloc(), 10_000)?;
-        println!(rt; "10000 rows of code and of notes, read back: {sum}")?;
-        return Ok(());
+    let mut words = env::args(&rt)?.skip(1);
+    match (words.next(), words.next()) {
+        (None, _) => show(rt),
+        (Some(asked), None) => time(rt, asked.as_str(), None),
+        (Some(asked), Some(chosen)) => time(rt, asked.as_str(), Some(chosen.as_str())),
     }
-    time_rows(rt, 100_000)?;
-    time_rows(rt, 5_000_000)
+}
+
+// What never varies.
+fn show(rt: HostRuntime) -> anyhow::Result<()> {
+    for subject in SUBJECTS {
+        println!(rt; "{}", subject.name())?;
+        subject.show(rt)?;
+    }
+    Ok(())
+}
+
+// How long the subject of this name takes, or all.
+fn time(rt: HostRuntime, asked: &str, chosen: Option<&str>) -> anyhow::Result<()> {
+    let mut known = false;
+    for subject in SUBJECTS {
+        if asked == "all" || asked == subject.name() {
+            known = true;
+            println!(rt; "{}", subject.name())?;
+            subject.time(rt, chosen)?;
+        }
+    }
+    if !known {
+        bail!("no subject is named {asked}");
+    }
+    Ok(())
 }

@@ -1,4 +1,5 @@
-//! Times the whole program, from the words to the report, over files in memory. With no argument it says only what it answers on small ones.
+//! Times the whole program, from the words to the report, over files in memory. With no argument it
+//! says only what it answers on small ones.
 #![tactic(auto)]
 
 mod making;
@@ -10,7 +11,8 @@ use running::{files, run};
 use std::env;
 use timing::time;
 
-/// The command lines that are timed, with how many rules there are and how many bytes the target has.
+/// The command lines that are timed, with how many rules there are and how many bytes the target
+/// has.
 const CASES: [(&str, usize, usize); 5] = [
     ("scan r.yar t.bin", 1_000, 100_000_000),
     ("scan -C r.img t.bin", 1_000, 100_000_000),

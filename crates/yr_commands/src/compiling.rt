@@ -2,9 +2,7 @@
 
 ghost use Rattle.std.specs.Prelude.{◌≡◌, ◌≤◌, ℕ, List, Option, Some, None, All, IfOk, length, map};
 ghost use Rattle.yr_base.specs.Store.{Files};
-ghost use Rattle.yr_preserves.specs.Shape.{IsCompiled};
 ghost use Rattle.yr_preserves.specs.RuleIds.{HaveIds};
-ghost use Rattle.yr_compiler.specs.Finds.{FindsSame};
 ghost use Rattle.yr_outcome.specs.Fits.{seen};
 ghost use Rattle.yr_outcome.specs.Front.{Reading, IsReading};
 ghost use Rattle.yr_outcome.specs.Front as front;
@@ -12,29 +10,18 @@ ghost use Rattle.yr_outcome.specs.Outcome as outcome;
 ghost use Rattle.yr_outcome.specs.Steps.{FitsAnswer, HasCause};
 ghost use Rattle.yr_rules.specs.Rules.{rules_of};
 ghost use Rattle.yr_rules.specs.Wellformed.{IsShortWord};
-ghost use Rattle.yr_scan.specs.Scanned.{module_values};
 ghost use Rattle.yr_checks.specs.Resolving.{AreExternals};
 ghost use Rattle.yr_words.specs.Commands.{Compile};
 ghost use Rattle.yr_words.specs.Shown.{source_shown, given_shown};
 ghost use Rattle.yr_commands.specs.Program.{all_setting};
 
+use crate::rules_image::image_of;
 use std::alloc::Global;
-use yr_base::{NoMemory, Store};
+use yr_base::Store;
 use yr_checks::CheckedRules;
 use yr_front::checked_rules;
 use yr_outcome::{Answer, write_output};
 use yr_words::{Given, Source};
-
-/// The bytes of an image to which rules are compiled.
-pub fn image_of(alloc: Global, rules: &CheckedRules) -> Result<Vec<u8>, NoMemory>
-    requires { HaveIds (rules_of rules.now) }
-    ensures compiled { IfOk result (λ bytes. IsCompiled module_values bytes.items (rules_of rules.now)) }
-    ensures finds { IfOk result (λ bytes. FindsSame module_values bytes.items (rules_of rules.now)) }
-{
-    yr_modules::laws::values_keep_the_table();
-    let tables = yr_compiler::compile(alloc, rules)?;
-    yr_image::encode(alloc, &tables)
-}
 
 fn write_image<'a, F: Store>(
     alloc: Global,

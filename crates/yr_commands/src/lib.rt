@@ -4,6 +4,7 @@
 mod checking;
 mod compiling;
 mod program;
+mod rules_image;
 mod running;
 mod scanning;
 mod top;

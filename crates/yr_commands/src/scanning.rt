@@ -15,7 +15,7 @@ ghost use Rattle.yr_words.specs.Commands.{Scan};
 ghost use Rattle.yr_words.specs.Shown.{flags_shown, source_shown, given_shown};
 ghost use Rattle.yr_commands.specs.Program.{all_setting};
 
-use crate::compiling::image_of;
+use crate::rules_image::image_of;
 use std::alloc::Global;
 use yr_base::{Sink, Store};
 use yr_checks::CheckedRules;

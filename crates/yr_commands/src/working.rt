@@ -16,7 +16,7 @@ ghost use Rattle.yr_scan.specs.Scanned.{module_values};
 ghost use Rattle.yr_words.specs.Commands.{Work};
 ghost use Rattle.yr_commands.specs.Program.{all_setting, refusal_or_none};
 
-use crate::compiling::image_of;
+use crate::rules_image::image_of;
 use itoa::Buffer;
 use std::alloc::Global;
 use yr_answer::Matches;

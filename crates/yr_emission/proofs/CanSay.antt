@@ -17,7 +17,8 @@ use Rattle.yr_image.specs.declared.instruction.Instruction.{Instruction}
 use Rattle.yr_image.specs.declared.instruction.Instruction.TheVariants as i
 use Rattle.yr_image.specs.Instructions.{compares}
 use Rattle.yr_emission.specs.Parts.{Line, exactly, Part, one, pattern_part, nothing, both, skipping, looping, set_part, prefix_row, infix_row, infix_answer, known_kind, value_kind, skips_at, skip_row, link_part, link_part_by, name_of, found_row, quantifier_row, form_of, numbers_of, loop_row, strings_row, part_of, links_part, place_part, asked_part, domain_part, items_part}
-use Rattle.yr_emission.specs.Sayable.{LoopAsks, IsSayable, AreSayable}
+use Rattle.yr_image.specs.Sayable.{LoopAsks, IsSayable}
+use Rattle.yr_emission.specs.Sayable.{AreSayable}
 use Rattle.yr_emission.specs.Setting.{IsKinded}
 use Rattle.yr_emission.proofs.KindFacts.{nothing as no_kind, second, number_asks, numbers_ask, text_asks, value_asks, first_asked, where_made}
 use Rattle.yr_emission.proofs.OperatorFacts.{infix_asks, infix_makes, links_ask}

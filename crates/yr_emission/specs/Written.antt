@@ -7,7 +7,7 @@ use Rattle.yr_image.specs.Instructions.{instruction_of}
 use Rattle.yr_draft.specs.Growing.{Grows}
 use Rattle.yr_splits.specs.Programs.{AreProgramRows}
 use Rattle.yr_emission.specs.Parts.{Part, Line, exactly, gives_text, asks}
-use Rattle.yr_emission.specs.Sayable.{IsSayable}
+use Rattle.yr_image.specs.Sayable.{IsSayable}
 use Rattle.yr_emission.specs.Standing.{Fulfils}
 
 -- the row says the instruction, if any row can

@@ -4,7 +4,7 @@ ghost use Rattle.std.specs.Prelude.{◌≡◌, map, length, OnOk};
 ghost use Rattle.yr_rules.specs.NodeTree.{tree_of, where_of, asked_of, domain_of, bounds_of, link_of, links_of, items_of};
 ghost use Rattle.yr_rules.specs.Rules.{external_of};
 ghost use Rattle.yr_emission.specs.Parts.{one, both, prefix_row, skipping, skip_row, looping, link_part, part_of, place_part, asked_part, domain_part, items_part, links_part};
-ghost use Rattle.yr_emission.specs.Sayable.{IsNarrow};
+ghost use Rattle.yr_image.specs.Sayable.{IsNarrow};
 ghost use Rattle.yr_emission.specs.Starts.{begin_of};
 ghost use Rattle.yr_emission.specs.Written.{Written};
 

@@ -3,7 +3,7 @@
 ghost use Rattle.std.specs.Prelude.{◌≡◌, ℕ};
 ghost use Rattle.yr_rules.specs.NodeTree.{asked_of, domain_of};
 ghost use Rattle.yr_emission.specs.Parts.{loop_row};
-ghost use Rattle.yr_emission.specs.Sayable.{IsNarrow};
+ghost use Rattle.yr_image.specs.Sayable.{IsNarrow};
 ghost use Rattle.yr_emission.specs.Starts.{begin_of};
 
 use crate::choosing::quantifier_row;

@@ -5,14 +5,13 @@ ghost use Rattle.yr_pattern.specs.Tree.{tree_of as pattern_of};
 ghost use Rattle.yr_rules.specs.NodeTree.{set_of};
 ghost use Rattle.yr_image.specs.Image.{Image};
 ghost use Rattle.yr_emission.specs.Parts.{one, both, text_part, pattern_part, set_part, entries_part, numbers_of};
-ghost use Rattle.yr_emission.specs.Sayable.{IsNarrow};
+ghost use Rattle.yr_image.specs.Sayable.{IsNarrow};
 ghost use Rattle.yr_emission.specs.Written.{SaysIf, HasRow, Written};
 
-use crate::row::row_of;
 use std::alloc::Global;
 use yr_base::NoMemory;
 use yr_draft::ImageDraft;
-use yr_image::{Arithmetic, CodeRow, Instruction, OfForm, QuantifierKind};
+use yr_image::{Arithmetic, CodeRow, Instruction, OfForm, QuantifierKind, row_of};
 use yr_pattern::size;
 use yr_program::assemble;
 use yr_rules::{Members, Pattern};

@@ -17,3 +17,12 @@ pub fn same_reports()
         → IsImageReport (modules file) one file values options target text count
         → IsImageReport (modules file) other file values options target text' count' → text ≡ text' }
 {}
+
+/// Bytes have at most one report and one number of hits on a file, whatever the bytes and the values are.
+pub fn one_report()
+    ensures { (modules : ModuleValues) (bytes file : List ℕ) (values : List Value) (options : ReportOptions)
+        (target text text' : List ℕ) (count count' : ℕ)
+        → IsImageReport modules bytes file values options target text count
+        → IsImageReport modules bytes file values options target text' count'
+        → (text ≡ text') × (count ≡ count') }
+{}

@@ -1,6 +1,6 @@
 use Rattle.std.proofs.Common.{ap, ◌∙◌}
 use Rattle.yr_image.specs.Instructions.{instruction_of}
-use Rattle.yr_emission.proofs.RowLemmas.{row_says}
+use Rattle.yr_image.proofs.InstructionRowLemmas.{row_says}
 use Rattle.yr_emission.proofs.putting.saying.Goals as goal
 
 pub returns : goal.returns

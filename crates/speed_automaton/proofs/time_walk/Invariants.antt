@@ -1,4 +1,0 @@
-use Rattle.speed_automaton.proofs.time_walk.Given as goal
-
-abbrev pub ghosts-count_outputs : goal.ghosts-count_outputs
-ghosts-count_outputs a = record { name = a.blank.name; parts = a.blank.parts }

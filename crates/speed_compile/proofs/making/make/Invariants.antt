@@ -1,7 +1,0 @@
-use Rattle.std.proofs.Common.{map}
-use Rattle.yr_rules.specs.Rules.{rule_of, string_of}
-use Rattle.speed_compile.specs.Made.{AreMade}
-use Rattle.speed_compile.proofs.making.make.Given as goal
-
-abbrev pub invariant-loop-k : goal.invariant-loop-k
-invariant-loop-k l = AreMade (map rule_of l.rules.items) (map string_of l.strings.items)

@@ -1,4 +1,0 @@
-use Rattle.speed_image.proofs.time_rows.Goals as goal
-
-pub sum_of_image-sum-requires-clause-short : goal.sum_of_image-sum-requires-clause-short
-sum_of_image-sum-requires-clause-short c = c.in_ok-tables.ensures.short

@@ -1,4 +1,0 @@
-use Rattle.speed_spans.proofs.timing.each.Given as goal
-
-abbrev pub ghosts-ask_each : goal.ghosts-ask_each
-ghosts-ask_each a = record { name = a.blank.name; parts = a.blank.parts }
