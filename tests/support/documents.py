@@ -92,6 +92,9 @@ def shown(document: Path) -> list[Shown]:
 
 
 def documents(top: Path) -> list[Path]:
-    """The documents of the repository, those of single crates apart."""
+    """The documents of the repository, without those of single crates and the recipes of fleets.
+
+    (A recipe needs other machines or services; fleet/tests try what the package itself does.)
+    """
     found = [*top.glob("*.md"), *top.glob("docs/*.md"), *top.glob("release/*.md")]
-    return sorted(place for place in found if not place.name.startswith("NOTES"))
+    return sorted(place for place in found if not place.name.startswith(("NOTES", "FLEETS")))
