@@ -26,6 +26,9 @@ DEATHS = 5
 CONNECT_SECONDS = 30
 # How often a cluster is asked for its workers, which may come and go.
 COUNT_SECONDS = 2.0
+# How often, and how far apart, the job is delivered where a worker dies at that moment.
+DELIVERIES = 20
+RETRY_SECONDS = 0.3
 
 
 def prepare() -> None:
@@ -56,12 +59,23 @@ class DaskEngine:
             fields = [getattr(job, field.name) for field in dataclasses.fields(job)]
             delivery = Shipped("Delivery", self.name, *fields)
             self.package = delivery.package
-            self.client.register_worker_plugin(delivery, name=self.name)
+            self._deliver(delivery)
             if scheduler:
                 self._count()
         except BaseException:
             self.close()
             raise
+
+    def _deliver(self, delivery: Any) -> None:
+        """Gives the job to all workers, those that come later too. A worker may die meanwhile."""
+        for left in reversed(range(DELIVERIES)):
+            try:
+                self.client.register_worker_plugin(delivery, name=self.name)
+                return
+            except OSError as fault:
+                if left == 0:
+                    raise Refused(f"the workers do not stay: {fault}") from fault
+                time.sleep(RETRY_SECONDS)
 
     def _local(self, dask: Any, distributed: Any, workers: int) -> Any:
         from . import dask_loaded  # noqa: F401
