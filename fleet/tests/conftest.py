@@ -18,6 +18,7 @@ RULE = """rule Needle : odd tree { meta: note = "a needle" n = -7
 
 def pytest_addoption(parser):
     parser.addoption("--program", default=os.environ.get("YARA_PROGRAM"))
+    parser.addoption("--speed", action="store_true", help="also tests that need an idle machine")
 
 
 @pytest.fixture(scope="session")
