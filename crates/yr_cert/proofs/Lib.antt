@@ -1,0 +1,12 @@
+pub mod TimesLemmas
+pub mod ShapeLemmas
+pub mod CertifiedLemmas
+pub mod FaultLemmas
+pub mod BytesLemmas
+pub mod NotedLemmas
+pub mod ParentLemmas
+pub mod SuffixesLemmas
+pub mod HomeLemmas
+pub mod TrieLemmas
+pub mod KeepLemmas
+pub mod ClimbLemmas
