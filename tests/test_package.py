@@ -31,14 +31,16 @@ def test_the_package(checkout: Checkout, tmp_path: Path) -> None:
         (root / "var/lib/dpkg/updates").mkdir()
         (root / "var/lib/dpkg/status").touch()
         dpkg = ["dpkg", f"--root={root}", "--force-depends"]
-        subprocess.run([*dpkg, "-i", made[0]], check=True, capture_output=True)
+        # dpkg wants the tools of an administrator on PATH.
+        around = {**os.environ, "PATH": f"{os.environ['PATH']}:/usr/sbin:/sbin"}
+        subprocess.run([*dpkg, "-i", made[0]], check=True, capture_output=True, env=around)
     yara = root / "usr" / "bin" / "yara"
     assert checkout.run(yara, "--version").stdout.startswith("Tegwolish ")
     assert checkout.run(yara, "work", "1", "1").returncode == 0
     for name in ("man/man1/yara-tegwolish.1.gz", "zsh/vendor-completions/_yara"):
         assert (root / "usr" / "share" / name).is_file()
     if not os.geteuid():
-        subprocess.run([*dpkg, "-r", "tegwolish"], check=True, capture_output=True)
+        subprocess.run([*dpkg, "-r", "tegwolish"], check=True, capture_output=True, env=around)
         assert not (root / "usr").exists()
 
 
