@@ -55,6 +55,7 @@ def arguments(words: list[str]) -> tuple[argparse.Namespace, list[str]]:
     parser = argparse.ArgumentParser(prog="./test", add_help=False, allow_abbrev=False)
     parser.add_argument("-h", "--help", action="store_true")
     parser.add_argument("--program", type=Path)
+    parser.add_argument("--portion", type=int, default=100)
     parser.add_argument("--workers", type=int)
     return parser.parse_known_args(words)
 
@@ -71,17 +72,14 @@ def default_workers(words: list[str]) -> int:
     return min(len(os.sched_getaffinity(0)), MOST_WORKERS)
 
 
-def start(
-    tests: list[str], words: list[str], share: str, folder: Path, program: Path, shown: bool
-) -> Worker:
+def start(one: Share, counts: Path, program: Path, *, shown: bool) -> Worker:
     """Starts pytest on one share of the tests."""
-    counts = folder / f"counts-{share.replace('/', '-')}-{len(list(folder.iterdir()))}"
     said = None if shown else tempfile.TemporaryFile()
     process = subprocess.Popen(
         [
-            sys.executable, "-m", "pytest", "-q", "-r", "s",
-            "-p", "support.counting", "--share", share, "--counts", counts,
-            *words, *tests,
+            sys.executable, "-m", "pytest", *one.tests, "-q", "-r", "sx",
+            "-p", "support.counting", "--share", one.share, "--counts", counts,
+            *one.words,
         ],
         stdout=said,
         stderr=subprocess.STDOUT if said else None,
@@ -97,22 +95,36 @@ def start(
     return Worker(process, said, counts)
 
 
-def run(tests: list[str], words: list[str], workers: int, program: Path) -> tuple[Counter, bool]:
-    """Runs tests in shares, the first one shown as it goes."""
+@dataclass(frozen=True)
+class Share:
+    """A share of some tests, for one pytest process."""
+
+    tests: list[str]
+    words: list[str]
+    share: str = "0/1"
+
+
+def shares(tests: list[str], words: list[str], workers: int) -> list[Share]:
+    """Tests in as many shares."""
+    return [Share(tests, words, f"{k}/{workers}") for k in range(workers)]
+
+
+def run(started: list[Share], program: Path) -> tuple[Counter, bool]:
+    """Runs all shares side by side, the first one shown as it goes."""
     counts: Counter = Counter()
     well = True
     with tempfile.TemporaryDirectory(prefix="tegwolish-counts-") as folder:
-        started = [
-            start(tests, words, f"{k}/{workers}", Path(folder), program, shown=k == 0)
-            for k in range(workers)
+        workers = [
+            start(one, Path(folder) / str(number), program, shown=number == 0)
+            for number, one in enumerate(started)
         ]
         try:
-            for worker in started:
+            for worker in workers:
                 more, ended = worker.finish()
                 counts += more
                 well = well and ended
         except KeyboardInterrupt:
-            for worker in started:
+            for worker in workers:
                 worker.process.terminate()
                 worker.process.wait()
             raise SystemExit(130) from None
@@ -124,7 +136,7 @@ def is_place(word: str) -> bool:
     return not word.startswith("-") and Path(word.split("::")[0]).exists()
 
 
-def with_fleet(words: list[str]) -> bool:
+def with_fleet() -> bool:
     """Whether the tests of fleets are run; where they are not, a line says so."""
     if not FLEET.is_dir():
         return False
@@ -147,18 +159,20 @@ def main(words: list[str]) -> int:
         return LACKING
     program = program.resolve()
     workers = own.workers or default_workers(rest)
-    named = ["-c", str(TESTS / "pytest.ini"), "--rootdir", str(TESTS)]
-    ours = [*named, "--program", str(program)]
+    # Each with its value in one word: pytest takes a word behind an option for a place until it
+    # has read our conftest.
+    ours = [
+        f"--rootdir={TESTS}", f"--program={program}", f"--portion={own.portion}",
+        "-c", str(TESTS / "pytest.ini"),
+    ]  # fmt: skip
     print(f"program: {program}", flush=True)
-    if any(is_place(word) for word in rest):
-        counts, well = run([], [*ours, *rest], workers, program)
-    else:
-        counts, well = run([str(TESTS)], [*ours, *rest], workers, program)
-        if with_fleet(rest):
-            fleet = [word for word in rest if not word.startswith("--portion")]
-            more, ended = run([str(FLEET)], fleet, 1, program)
-            counts += more
-            well = well and ended
+    named = [word for word in rest if is_place(word)]
+    others = [word for word in rest if word not in named]
+    started = shares(named or [str(TESTS)], [*ours, *others], workers)
+    if not named and with_fleet():
+        # Mostly waiting, so it goes beside the others.
+        started.append(Share([str(FLEET)], others))
+    counts, well = run(started, program)
     failed = counts["failed"] + counts["error"] + counts["xpassed"]
     if not well:
         print("test: pytest did not end as it should", file=sys.stderr)
