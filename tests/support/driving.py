@@ -136,6 +136,11 @@ def is_place(word: str) -> bool:
     return not word.startswith("-") and Path(word.split("::")[0]).exists()
 
 
+def is_of_fleet(word: str) -> bool:
+    """Whether a place is among the tests of fleets, which know no options of ours."""
+    return Path(word.split("::")[0]).resolve().is_relative_to(FLEET)
+
+
 def with_fleet() -> bool:
     """Whether the tests of fleets are run; where they are not, a line says so."""
     if not FLEET.is_dir():
@@ -168,7 +173,10 @@ def main(words: list[str]) -> int:
     print(f"program: {program}", flush=True)
     named = [word for word in rest if is_place(word)]
     others = [word for word in rest if word not in named]
-    started = shares(named or [str(TESTS)], [*ours, *others], workers)
+    if named and all(is_of_fleet(word) for word in named):
+        started = [Share(named, others)]
+    else:
+        started = shares(named or [str(TESTS)], [*ours, *others], workers)
     if not named and with_fleet():
         # Mostly waiting, so it goes beside the others.
         started.append(Share([str(FLEET)], others))
