@@ -11,6 +11,8 @@ mod linking;
 mod parent;
 mod reaching;
 mod spelling;
+#[cfg(test)]
+mod tests;
 mod trie;
 
 pub use certified_image::CertifiedImage;
